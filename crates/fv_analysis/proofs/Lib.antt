@@ -1,4 +1,2 @@
 pub mod Grown
-pub mod StandLemmas
-pub mod RateLemmas
-pub mod HistoryLemmas
+pub mod lemmas

@@ -13,8 +13,8 @@ use Rattle.fv_pcm.specs.declared.coding.Coding.TheVariants.{Au}
 use Rattle.fv_pcm.specs.headline.Coded.{sample_bytes}
 use Rattle.fv_pcm.specs.headline.Sizes.{data_size, data_limit}
 use Rattle.fv_pcm.specs.Sizes.{frames_in}
-use Rattle.fv_pcm.proofs.Widths.{at_width}
-use Rattle.fv_pcm.proofs.Again.{samples_again}
+use Rattle.fv_pcm.proofs.lemmas.Widths.{at_width}
+use Rattle.fv_pcm.proofs.lemmas.Again.{samples_again}
 use Rattle.fv_wav.specs.Written.{CanBeWritten}
 use Rattle.fv_au.specs.headline.Reading.{au, head_of, head_bytes, encoding_of, is_channels, field}
 use Rattle.fv_au.specs.Reading.{layout_of}

@@ -3,9 +3,9 @@ use Rattle.std.proofs.Common.{ℕ, ◌∙◌}
 use Rattle.std.specs.Prelude.{IsTrue}
 use Rattle.fv_outside.specs.headline.Desk.{DeskState}
 use Rattle.fv_base.specs.declared.role.Role.TheVariants.{Input}
-use Rattle.fv_outside.proofs.States.{told_before, fault_earlier, unfailing_later, some_then}
+use Rattle.fv_outside.proofs.lemmas.States.{told_before, fault_earlier, unfailing_later, some_then}
 use Rattle.fv_wav.specs.Stopping.{Passes, IsSaid}
-use Rattle.fv_wav.proofs.Steps.{passes_nothing}
+use Rattle.fv_wav.proofs.lemmas.Steps.{passes_nothing}
 use Rattle.fv_au.specs.Stopping.{AuStops, IsAuCause}
 use Rattle.fv_au.specs.declared.refusal.AuRefusal.{AuRefusal}
 use Rattle.fv_au.specs.declared.refusal.AuRefusal.TheVariants.{ReadFault, AuFormat, AuTruncated, NoMemory}

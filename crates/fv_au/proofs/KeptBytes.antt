@@ -3,7 +3,7 @@ use Rattle.std.proofs.Common.{◌≡◌, ℕ, ◌+◌, ◌-◌, ◌≤◌, ◌<�
 use Rattle.std.proofs.Common.{append_assoc, take_all, length-take, length-take-le}
 use Rattle.std.proofs.lemmas.List.{drop_all, drop_at, take-append-drop}
 use borrow.Rule.Slice.PartMut.{put_mid}
-use Rattle.fv_wav.proofs.Begun.{last_part, front_then}
+use Rattle.fv_wav.proofs.lemmas.Begun.{last_part, front_then}
 
 behind_part : (n : ℕ) (xs ys : List ℕ) → n ≤ length xs → drop n (put_mid n (length xs - n) xs ys) ≡ ys
 behind_part n xs ys h = ap (drop n) (last_part n (length xs - n) xs ys h refl) ∙ drop_at (take n xs) ys n (length-take-le n xs h)

@@ -3,4 +3,4 @@ pub mod Places
 pub mod Lines
 pub mod Lawful
 pub mod Spelled
-pub mod Listening
+pub mod lemmas

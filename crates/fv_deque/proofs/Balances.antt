@@ -9,7 +9,7 @@ use Rattle.crossbeam_deque.specs.Tasks.{Pushes, Takes, Pops, Finds, Forks, Merge
 use Rattle.crossbeam_deque.proofs.Lists.{at_set, at_snoc}
 use Rattle.fv_graph.specs.Tasks.{bit, total}
 use Rattle.fv_graph.specs.TasksBeside.{times}
-use Rattle.fv_graph.proofs.Counts.{bit_apart, bit_le, bit_same, bit_false, total_append}
+use Rattle.fv_graph.proofs.lemmas.Counts.{bit_apart, bit_le, bit_same, bit_false, total_append}
 use Rattle.fv_deque.specs.declared.rule.Account.{Account}
 use Rattle.fv_deque.specs.Balance.{account, IsIdle, IsBalanced}
 

@@ -5,8 +5,8 @@ use mathlib.Core.Logic.{dite}
 use native.Mathlib.Decide.{ℕ_discrete}
 use Rattle.fv_graph.specs.Tasks.{bit}
 use Rattle.fv_graph.specs.TasksBeside.{times}
-use Rattle.fv_graph.proofs.Counts.{bit_same, bit_apart, total_append}
-use Rattle.fv_graph_core.proofs.Few.{fewer}
+use Rattle.fv_graph.proofs.lemmas.Counts.{bit_same, bit_apart, total_append}
+use Rattle.fv_graph_core.proofs.lemmas.Few.{fewer}
 use Rattle.fv_deque.specs.declared.rule.Account.{Account}
 use Rattle.crossbeam_deque.specs.Handles.{worker_index, worker_capacity}
 use Rattle.fv_deque.specs.Balance.{account}

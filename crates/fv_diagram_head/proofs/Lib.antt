@@ -1,5 +1,4 @@
-pub mod Closed
+pub mod lemmas
 mod Looking
 mod Parted
-pub mod Outputs
 mod Numbered

@@ -4,7 +4,7 @@ use Rattle.std.specs.List.{list_any}
 use Rattle.std.proofs.lemmas.List.{reverse-append}
 use Rattle.std.proofs.lemmas.List.Folds.{list_any-append}
 use Rattle.fv_diagram.specs.Arena.{Arena, tree_of}
-use Rattle.fv_diagram.proofs.Turns.{some_size}
+use Rattle.fv_diagram.proofs.lemmas.Turns.{some_size}
 use Rattle.fv_diagram_head.specs.declared.fixed.Look.{Look}
 use Rattle.fv_diagram_head.specs.declared.fixed.Look.TheVariants as look
 use Rattle.fv_diagram_head.specs.headline.Heads.{is_closed}

@@ -5,7 +5,7 @@ use Rattle.std.proofs.lemmas.List.{map-append}
 use Rattle.std.proofs.lemmas.List.Elements.{All-push}
 use Rattle.fv_diagram.specs.headline.Diagram.{Diagram, size}
 use Rattle.fv_diagram.specs.Arena.{Arena, count_of, tree_of}
-use Rattle.fv_diagram.proofs.Turns.{some_size}
+use Rattle.fv_diagram.proofs.lemmas.Turns.{some_size}
 use Rattle.fv_diagram_head.specs.headline.Heads.{cut, parts}
 use Rattle.fv_diagram_head.specs.Lists.{AreThere, trees_of}
 

@@ -3,7 +3,7 @@ use Rattle.std.proofs.Common.{◌≡◌, ◌⊎◌, ℕ, zero, suc, ◌+◌, ◌
 use Rattle.std.proofs.Common.{inr, append_assoc, append-nil}
 use Rattle.std.proofs.lemmas.Bool.{cases_lt}
 use Rattle.std.proofs.lemmas.List.{get_or_append_left, get_or-append_right, get_or-take, get_or-drop, length-take-le, length-drop, take_at, drop_at}
-use Rattle.fv_base.proofs.Lists.{table_same, length_table, table_items}
+use Rattle.fv_base.proofs.lemmas.Lists.{table_same, length_table, table_items}
 use Rattle.fv_num.specs.headline.Words.{argument}
 use Rattle.fv_num.specs.headline.Frames.{Frame, table}
 use Rattle.fv_diagram_number.specs.inner.Timeless.{Action, Does}

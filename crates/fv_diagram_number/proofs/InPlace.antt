@@ -5,12 +5,12 @@ use Rattle.std.proofs.Math.Nat.{mod-eq_of_lt}
 use Rattle.std.proofs.lemmas.Bool.{cases_lt, cases_eq, cond-true, cond-false, eq-eqb, ne_eqb}
 use Rattle.std.proofs.lemmas.List.{get_or-set_other, drop_all, length-set}
 use Rattle.std.proofs.lemmas.Grind.{get_or-set_at}
-use Rattle.fv_base.proofs.Lists.{length_table, get_or_table, drop_step}
+use Rattle.fv_base.proofs.lemmas.Lists.{length_table, get_or_table, drop_step}
 use Rattle.fv_num.specs.declared.op.Op.TheVariants.{Add}
 use Rattle.fv_num.specs.headline.Words.{argument, apply_of}
 use Rattle.fv_num.specs.headline.Frames.{Frame, table}
 use Rattle.fv_diagram.specs.headline.Streams.{wrapped_sum, added, every}
-use Rattle.fv_diagram.proofs.Sums.{every_front}
+use Rattle.fv_diagram.proofs.lemmas.Sums.{every_front}
 use Rattle.fv_diagram_number.specs.inner.Timeless.{Does, dealing, summing}
 
 -- so many numbers came, and each place has what it had

@@ -1,7 +1,7 @@
 -- The turns that find the value of a timeless diagram.
 use Rattle.std.proofs.Common.{◌≡◌, ◌⊎◌, ℕ, ◌+◌, ◌<◌, ◌≤◌, Bool, ◌&&◌, List, [], ◌∷◌, length, refl, sym, ap, ◌∙◌, subst, arith, ℤ, pos, inl, inr}
 use Rattle.std.proofs.Math.Bool.{and_assoc}
-use Rattle.fv_base.proofs.Lists.{length_table}
+use Rattle.fv_base.proofs.lemmas.Lists.{length_table}
 use Rattle.fv_num.specs.headline.Words.{argument}
 use Rattle.fv_diagram.specs.headline.Diagram.{Diagram, Par, Seq, Split, Merge, inputs, outputs, size}
 use Rattle.fv_diagram.specs.Composed.{IsComposed}
@@ -12,7 +12,7 @@ use Rattle.fv_diagram_number.specs.headline.Numbers.{is_timeless}
 use Rattle.fv_num.specs.headline.Frames.{Frame}
 use Rattle.fv_diagram.specs.headline.Streams.{dealt, merged}
 use Rattle.fv_diagram_number.specs.inner.Timeless.{Action, given, whole, action, Does, Leads, Fits, AllFit, IsReady, are_timeless, weight, Advances}
-use Rattle.fv_diagram.proofs.Turns.{some_size, not_below}
+use Rattle.fv_diagram.proofs.lemmas.Turns.{some_size, not_below}
 use Rattle.fv_diagram_number.proofs.Actions.{narrowed, after, follow, beside}
 use Rattle.fv_diagram_number.proofs.FirstValues.{width}
 

@@ -8,11 +8,11 @@ use Rattle.fv_diagram.specs.headline.Diagram.{Diagram}
 use Rattle.fv_diagram.specs.Diagram.{control_bound}
 use Rattle.fv_diagram.specs.headline.Streams.{run, last}
 use Rattle.fv_diagram.specs.Laws.{AnswersEach, AnswersOneMore, AnswersAlike}
-use Rattle.fv_base.proofs.Lists.{get_or_table}
+use Rattle.fv_base.proofs.lemmas.Lists.{get_or_table}
 use Rattle.fv_control.specs.declared.script.Change.{Change}
 use Rattle.fv_control.specs.headline.Streams.{control_streams}
 use Rattle.fv_diagram.specs.headline.Samples.{joined, no_slots}
-use Rattle.fv_control.proofs.Listening.{heard_at}
+use Rattle.fv_control.proofs.lemmas.Listening.{heard_at}
 
 -- on no frames nothing is answered
 pub answers_none : (d : Diagram) (c e : ℕ → Stream) → AnswersEach d → run d c e [] ≡ []

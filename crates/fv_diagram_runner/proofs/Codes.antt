@@ -5,7 +5,7 @@ use Rattle.std.proofs.lemmas.Bool.{cases_lt}
 use Rattle.std.proofs.lemmas.List.{get_or_append_left, get_or_push, length-append}
 use Rattle.std.proofs.lemmas.List.Elements.{All-nil, All-cons, All-head, All-tail, All-push, All-weaker, All-set, All-get_or}
 use Rattle.fv_num.specs.headline.Frames.{table}
-use Rattle.fv_base.proofs.Lists.{length_snoc, length_table}
+use Rattle.fv_base.proofs.lemmas.Lists.{length_snoc, length_table}
 use Rattle.fv_diagram_runner.specs.declared.step.Step.{Step}
 use Rattle.fv_diagram_runner.specs.declared.step.Step.TheVariants as step
 use Rattle.fv_diagram_runner.specs.declared.step.Change.{Change}
@@ -14,7 +14,7 @@ use Rattle.std.proofs.Common.{get_or, ℤ, refl}
 use Rattle.fv_diagram_runner.specs.declared.step.Change.TheVariants as change
 use Rattle.fv_diagram_runner.specs.Steps.{OperandsBelow, ReadsWithin, IsKept, IsBegun, ChangesBelow}
 use Rattle.fv_diagram_runner.specs.inner.Code.{Code, IsCode, input_code, put_cell, with_step, with_list, with_cells, written}
-use Rattle.fv_diagram.proofs.Each.{each_table}
+use Rattle.fv_diagram.proofs.lemmas.Each.{each_table}
 
 -- the registers of a change, among more
 below_more : (n m : ℕ) → n ≤ m → (a : Change) → ChangesBelow n a → ChangesBelow m a

@@ -6,7 +6,7 @@ use Rattle.std.proofs.lemmas.List.{get_or_append_left, get_or_push, length_push,
 use Rattle.std.proofs.lemmas.List.{get_or-append-add, get_or-set_same, get_or-set_other, take-map}
 use Rattle.std.proofs.lemmas.List.Elements.{All-weaker, All-cons, All-head, All-tail}
 use Rattle.fv_base.specs.headline.Lists.{IsPrefixOf}
-use Rattle.fv_base.proofs.Lists.{prefix_trans, length_table, table_same, map_table, get_or_table}
+use Rattle.fv_base.proofs.lemmas.Lists.{prefix_trans, length_table, table_same, map_table, get_or_table}
 use Rattle.fv_num.specs.declared.op.Op.{Op}
 use Rattle.fv_num.specs.declared.op.Op.TheVariants.{Select2, Add, Rem}
 use Rattle.fv_num.specs.headline.Words.{apply_of, inputs_of}
@@ -20,7 +20,7 @@ use Rattle.fv_diagram.specs.declared.signals.Leaf.TheVariants as leaf
 use Rattle.fv_diagram.specs.declared.node.Primitive.{Primitive as Prim}
 use Rattle.fv_diagram.specs.declared.node.Primitive.TheVariants as prim
 use Rattle.fv_num.specs.headline.Tables.{place, read_at, written_at as table_written_at}
-use Rattle.fv_num.proofs.Tables.{last_written_same}
+use Rattle.fv_num.proofs.lemmas.Tables.{last_written_same}
 use Rattle.std.proofs.lemmas.Bool.{true≢false}
 use Rattle.fv_diagram.specs.headline.Diagram.{Primitive, Table, primitive_inputs, table_inputs, is_table_primitive}
 use Rattle.fv_diagram.specs.Diagram.{AreNumbers}
@@ -31,13 +31,13 @@ use Rattle.fv_diagram_runner.specs.Steps.{step_at, wires, AreOrdered}
 use Rattle.fv_diagram_runner.specs.inner.Code.{Code, HasLoops, put, put_cell, put_back, put_prefix, put_read, put_write, with_step, with_list, with_cells, leaf_of, opened_of, closed_of}
 use Rattle.fv_diagram.specs.Hooks.{padded}
 use Rattle.fv_diagram_runner.specs.inner.Code.{shut, written, counted_of, tabled_of, runner_hooks}
-use Rattle.fv_diagram.proofs.Causality.{delayed_same, back_same}
+use Rattle.fv_diagram.proofs.lemmas.Causality.{delayed_same, back_same}
 use Rattle.std.proofs.Common.{◌%◌, w32, FitsSigned}
-use Rattle.fv_diagram.proofs.Counting.{counts_on}
-use Rattle.fv_diagram.proofs.Carried.{column_carries}
-use Rattle.fv_diagram.proofs.Places.{prefix_snoc, prefix_long, prefix_get, table_replicate, carried_first, takes_some}
+use Rattle.fv_diagram.proofs.lemmas.Counting.{counts_on}
+use Rattle.fv_diagram.proofs.lemmas.Carried.{column_carries}
+use Rattle.fv_diagram.proofs.lemmas.Places.{prefix_snoc, prefix_long, prefix_get, table_replicate, carried_first, takes_some}
 use Rattle.fv_diagram_runner.proofs.StepStreams.{step_is, last_is, cell_is}
-use Rattle.fv_diagram.proofs.Meaning.{AreOrderly, Means, AreSound}
+use Rattle.fv_diagram.proofs.lemmas.Meaning.{AreOrderly, Means, AreSound}
 
 -- ---- the laws without meaning
 

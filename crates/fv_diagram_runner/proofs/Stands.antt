@@ -9,22 +9,22 @@ use Rattle.fv_num.specs.headline.Frames.{Frame, Stream, frame_at, column, table,
 use Rattle.fv_num.specs.Frames.{carries}
 use Rattle.std.proofs.Common.{append_assoc, ◌≤◌}
 use Rattle.fv_num.specs.headline.Tables.{place, read_at, written_at, written, after}
-use Rattle.fv_num.proofs.Tables.{lists_the_last}
+use Rattle.fv_num.proofs.lemmas.Tables.{lists_the_last}
 use Rattle.fv_num.specs.headline.Valuation.{at_time, numbers, streams_before}
-use Rattle.fv_base.proofs.Lists.{length_snoc, length_table, table_same, table_items, get_or_table}
-use Rattle.fv_num.proofs.Valued.{at_now, at_past, streams_before_are, valuation_same}
+use Rattle.fv_base.proofs.lemmas.Lists.{length_snoc, length_table, table_same, table_items, get_or_table}
+use Rattle.fv_num.proofs.lemmas.Valued.{at_now, at_past, streams_before_are, valuation_same}
 use Rattle.fv_diagram_runner.specs.declared.step.Step.{Step}
 use Rattle.fv_diagram_runner.specs.declared.step.Step.TheVariants as step
 use Rattle.fv_diagram_runner.specs.declared.step.Change.{Change}
 use Rattle.fv_diagram_runner.specs.declared.step.Change.TheVariants as change
 use Rattle.fv_diagram.specs.headline.Diagram.{Diagram, inputs}
-use Rattle.fv_diagram.proofs.Causality.{run_closed, column_same, back_same}
+use Rattle.fv_diagram.proofs.lemmas.Causality.{run_closed, column_same, back_same}
 use Rattle.fv_diagram.specs.headline.Streams.{run, last}
 use Rattle.fv_diagram_runner.specs.Steps.{step_value, recalled, in_lists, in_streams, registers, step_at, wires, RunnerState, registers_of, next_of, given_of, changed}
 use Rattle.fv_diagram_runner.specs.Steps.{lists_after, listed, all_listed, StandsFor, ReadsWithin, IsKept, IsBegun, IsRunner}
 use Rattle.fv_diagram.specs.Wires.{no_slots}
-use Rattle.fv_diagram.proofs.Lists.{last_snoc}
-use Rattle.fv_diagram.proofs.Carried.{wired_answers}
+use Rattle.fv_diagram.proofs.lemmas.Lists.{last_snoc}
+use Rattle.fv_diagram.proofs.lemmas.Carried.{wired_answers}
 
 -- the list of a step has at time t what the step asks
 abbrev Knows : (lists begun : List (List ℤ)) → (past : ℕ → Stream) → ℕ → Step → Type 0

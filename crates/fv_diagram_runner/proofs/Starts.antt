@@ -5,7 +5,7 @@ use Rattle.std.specs.Prelude.{slice_set}
 use Rattle.std.proofs.lemmas.List.{length-append, get_or-append-add, append-nil}
 use Rattle.std.proofs.lemmas.List.Elements.{All-nil, All-from_get_or}
 use Rattle.fv_base.specs.headline.Lists.{IsPrefixOf}
-use Rattle.fv_base.proofs.Lists.{prefix_refl, table_same, table_items, length_table, map_table, get_or_table}
+use Rattle.fv_base.proofs.lemmas.Lists.{prefix_refl, table_same, table_items, length_table, map_table, get_or_table}
 use Rattle.fv_num.specs.declared.op.Op.TheVariants.{Add}
 use Rattle.fv_num.specs.headline.Frames.{Stream, column, table}
 use Rattle.fv_diagram_runner.specs.declared.step.Step.{Step}
@@ -25,9 +25,9 @@ use Rattle.fv_diagram.specs.Wires.{plugged}
 use Rattle.fv_diagram_runner.specs.Steps.{RunnerState, AreOrdered, IsBegun, StandsFor, wires, listed, all_listed}
 use Rattle.fv_diagram.specs.Wires.{no_slots}
 use Rattle.fv_diagram_runner.specs.inner.Code.{Code, HasLoops, input_code, shut, opened_of, tabled_of, runner_hooks}
-use Rattle.fv_diagram.proofs.Places.{prefix_long, prefix_get}
+use Rattle.fv_diagram.proofs.lemmas.Places.{prefix_long, prefix_get}
 use Rattle.fv_diagram_runner.proofs.StepStreams.{step_is}
-use Rattle.fv_diagram.proofs.Meaning.{AllLists, walk_goes, walk_means}
+use Rattle.fv_diagram.proofs.lemmas.Meaning.{AllLists, walk_goes, walk_means}
 use Rattle.fv_diagram_runner.proofs.Sound.{Onward, GoesOn, runner_is_orderly, runner_is_sound}
 
 -- ---- the controls that the code reads

@@ -6,15 +6,15 @@ use Rattle.fv_base.specs.headline.Lists.{IsPrefixOf}
 use Rattle.fv_num.specs.headline.Words.{argument}
 use Rattle.fv_num.specs.headline.Frames.{Stream, delayed, back}
 use Rattle.fv_num.specs.inner.Valuation.{IsCausalAt, AreCausalFrom}
-use Rattle.fv_num.proofs.Valued.{valuation_is}
+use Rattle.fv_num.proofs.lemmas.Valued.{valuation_is}
 use Rattle.fv_diagram_runner.specs.declared.step.Step.{Step}
 use Rattle.std.proofs.Common.{ℤ, ◌≤◌}
 use Rattle.fv_num.specs.headline.Tables.{place, read_at, written_at}
-use Rattle.fv_num.proofs.Tables.{last_written_same}
+use Rattle.fv_num.proofs.lemmas.Tables.{last_written_same}
 use Rattle.fv_diagram_runner.specs.declared.step.Step.TheVariants as step
 use Rattle.fv_diagram_runner.specs.Steps.{step_value, in_streams, step_at, OperandsBelow, AreOrdered, wires}
-use Rattle.fv_diagram.proofs.Causality.{delayed_same, back_same}
-use Rattle.fv_diagram.proofs.Places.{prefix_long, prefix_get}
+use Rattle.fv_diagram.proofs.lemmas.Causality.{delayed_same, back_same}
+use Rattle.fv_diagram.proofs.lemmas.Places.{prefix_long, prefix_get}
 use Rattle.fv_diagram_runner.proofs.StepLists.{step_value_same}
 use Rattle.std.proofs.lemmas.Bool.{cases_lt}
 use Rattle.std.proofs.Common.{inl, inr}

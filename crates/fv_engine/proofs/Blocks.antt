@@ -3,7 +3,7 @@ use Rattle.std.proofs.Common.{◌≡◌, ℕ, ◌+◌, ◌*◌, ◌<◌, ◌≤�
 use Rattle.std.proofs.Common.{ap, ap₂, ◌∙◌, subst, arith, mul_comm}
 use Rattle.std.proofs.lemmas.List.{get_or_default}
 use Rattle.fv_signal.specs.Words.{argument}
-use Rattle.fv_base.proofs.Lists.{length_table}
+use Rattle.fv_base.proofs.lemmas.Lists.{length_table}
 use Rattle.fv_signal.specs.headline.Value.{value, Graph as Signals}
 use Rattle.fv_outside.specs.headline.Tasks.{Tasks, reads_loop, reads_task}
 use Rattle.fv_outside.specs.Tasks.{task_count}

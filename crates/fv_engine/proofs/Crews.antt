@@ -1,7 +1,7 @@
 -- What several workers need, and what they leave.
 use Rattle.std.proofs.Common.{◌≡◌, ℕ, ◌<◌, ℤ, List, length, sum, sym, ap, ◌∙◌, subst, arith}
 use Rattle.std.proofs.lemmas.List.{ext_get_or, length-map}
-use Rattle.fv_base.proofs.Lists.{table_same}
+use Rattle.fv_base.proofs.lemmas.Lists.{table_same}
 use Rattle.fv_outside.specs.headline.Tasks.{Tasks}
 use Rattle.fv_pool.specs.Lengths.{lengths_of}
 use Rattle.fv_pool.specs.Region.{cells_of}

@@ -2,9 +2,9 @@
 use Rattle.std.proofs.Common.{◌≡◌, ℕ, ◌+◌, ◌*◌, ◌<◌, ◌≤◌, List, length, sym, ap, ◌∙◌, subst, arith, ℤ}
 use Rattle.fv_signal.specs.Words.{argument}
 use Rattle.fv_signal.specs.Frames.{Frame, Stream, table, rows}
-use Rattle.fv_base.proofs.Lists.{table_same}
+use Rattle.fv_base.proofs.lemmas.Lists.{table_same}
 use Rattle.fv_signal.specs.headline.Value.{Graph, value}
-use Rattle.fv_analysis.proofs.StandLemmas.{stands_alike}
+use Rattle.fv_analysis.proofs.lemmas.StandLemmas.{stands_alike}
 use Rattle.fv_loopcode.specs.headline.State.{State, list_at}
 use Rattle.fv_outside.specs.headline.Tasks.{Tasks}
 use Rattle.fv_outside.specs.declared.gate.Line.{Line}
@@ -14,7 +14,7 @@ use Rattle.fv_engine_tasks.specs.headline.Block.{vectors_of}
 use Rattle.fv_engine_tasks.specs.Block.{HoldUpTo}
 use Rattle.fv_engine_tasks.specs.Outputs.{sample_of}
 use Rattle.fv_engine_tasks.specs.Underway.{EndsBlock}
-use Rattle.fv_engine_tasks.proofs.Numbers.{enough}
+use Rattle.fv_engine_tasks.proofs.lemmas.Numbers.{enough}
 use Rattle.fv_engine.specs.inner.Plans.{NamesThere}
 use Rattle.fv_engine.specs.Stands.{EngineView, StandsFor, AreGiven, GoesOn, AreBegun, AreEnded, played}
 use Rattle.fv_engine.proofs.Values.{GoesBehind, block_in, heard, content, values_obey, begins, sample_is, next_past, next_items}

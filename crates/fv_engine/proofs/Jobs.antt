@@ -2,10 +2,10 @@
 use Rattle.std.proofs.Common.{◌≡◌, ℕ, ◌*◌, ◌<◌, ◌≤◌, ℤ, List, length, map, take, drop, refl, sym, ap, ◌∙◌, arith, nat_lt}
 use Rattle.std.proofs.Common.{nat_eq, lt-ltb, eq-eqb}
 use Rattle.std.specs.Prelude.{slice_index}
-use Rattle.fv_base.proofs.Lists.{get_or_table, length_table}
+use Rattle.fv_base.proofs.lemmas.Lists.{get_or_table, length_table}
 use Rattle.fv_signal.specs.headline.Value.{Graph}
 use Rattle.fv_outside.specs.headline.Tasks.{Tasks, reads_loop}
-use Rattle.fv_graph.proofs.Counts.{both_of}
+use Rattle.fv_graph.proofs.lemmas.Counts.{both_of}
 use Rattle.fv_loopcode.specs.headline.Code.{NamesInput}
 use Rattle.fv_loopcode.specs.headline.Lanes.{Lane, lane_of, no_lane}
 use Rattle.fv_loopcode.specs.headline.State.{State}
@@ -19,7 +19,7 @@ use Rattle.fv_lines.specs.declared.shape.LaneShape.{LaneShape}
 use Rattle.fv_lines.specs.declared.shape.LaneState.{LaneState}
 use Rattle.fv_split_plan.specs.headline.View.{PlanView, lane_info, code_of}
 use Rattle.fv_split_plan.specs.headline.Plans.{IsPlanOf}
-use Rattle.fv_split_plan.proofs.TaskLemmas.{plans_are_apart}
+use Rattle.fv_split_plan.proofs.lemmas.TaskLemmas.{plans_are_apart}
 use Rattle.fv_engine_tasks.specs.headline.Block.{vectors_of}
 use Rattle.fv_engine_tasks.specs.Jobs.{IsJob}
 use Rattle.fv_engine.specs.inner.Plans.{block_from}

@@ -10,11 +10,11 @@ use Rattle.std.proofs.lemmas.List.Elements.{All-take, All-drop, All-append, All-
 use Rattle.std.proofs.lemmas.Nat.{le-div}
 use Rattle.std.proofs.Math.Nat.{div-mul-le_self}
 use Rattle.fv_signal.specs.Frames.{Stream, back, table}
-use Rattle.fv_base.proofs.Lists.{table_same, table_items}
+use Rattle.fv_base.proofs.lemmas.Lists.{table_same, table_items}
 use Rattle.fv_outside.specs.headline.Tasks.{reads_loop}
 use Rattle.fv_outside.specs.declared.tasks.Reads.{Reads}
 use Rattle.fv_graph.specs.Graph.{ArePairs, no_reads}
-use Rattle.fv_graph.proofs.Counts.{either_left, either_right, both_of}
+use Rattle.fv_graph.proofs.lemmas.Counts.{either_left, either_right, both_of}
 use Rattle.std.proofs.lemmas.Bool.{eq-eqb}
 use Rattle.fv_pool.specs.Layout.{part}
 use Rattle.fv_lines.specs.Hold.{from_start}
@@ -22,8 +22,8 @@ use Rattle.fv_lines.specs.Shape.{IsLaneLength}
 use Rattle.fv_lines.specs.Solo.{history_at, block_at, len_at, start_at, AreHeld}
 use Rattle.fv_lines.specs.declared.shape.LaneShape.{LaneShape}
 use Rattle.fv_lines.specs.declared.shape.LaneState.{LaneState}
-use Rattle.fv_lines.proofs.Tables.{history_is, block_is, len_is, start_is, shapes_fit}
-use Rattle.fv_lines.proofs.Parts.{length_part}
+use Rattle.fv_lines.proofs.lemmas.Tables.{history_is, block_is, len_is, start_is, shapes_fit}
+use Rattle.fv_lines.proofs.lemmas.Parts.{length_part}
 use Rattle.fv_signal.specs.declared.signal.Signal.{Signal}
 use Rattle.fv_signal.specs.headline.Value.{Graph}
 use Rattle.fv_analysis.specs.headline.Stands.{node}

@@ -1,6 +1,6 @@
 -- A block that runs over the lanes of one worker.
 use Rattle.std.proofs.Common.{◌≡◌, ℕ, ◌+◌, ◌<◌, ℤ, List, [], length, drop, sym, ap, ap₂, ◌∙◌, subst, arith}
-use Rattle.fv_base.proofs.Lists.{length_table}
+use Rattle.fv_base.proofs.lemmas.Lists.{length_table}
 use Rattle.fv_outside.specs.headline.Tasks.{Tasks}
 use Rattle.fv_outside.specs.declared.gate.Line.{Line}
 use Rattle.fv_graph.specs.Graph.{net_of}
@@ -11,10 +11,10 @@ use Rattle.fv_lines.specs.Solo.{lanes_of, lane_at, held_at, history_at, lengths_
 use Rattle.fv_lines.specs.declared.solo.Solo.{Solo}
 use Rattle.fv_lines.specs.declared.shape.LaneShape.{LaneShape}
 use Rattle.fv_lines.specs.declared.shape.LaneState.{LaneState}
-use Rattle.fv_lines.proofs.Stored.{lane_is, length_list, there_of}
+use Rattle.fv_lines.proofs.lemmas.Stored.{lane_is, length_list, there_of}
 use Rattle.fv_engine_tasks.specs.Block.{Block}
 use Rattle.fv_engine_tasks.specs.Underway.{IsUnderway}
-use Rattle.fv_engine_tasks.proofs.Opening.{opens}
+use Rattle.fv_engine_tasks.proofs.lemmas.Opening.{opens}
 use Rattle.std.specs.Global.{Vec}
 use Rattle.fv_split_plan.specs.headline.View.{PlanView}
 use Rattle.fv_engine.specs.inner.Kept.{state_of}
@@ -49,9 +49,9 @@ starts {g} {b} {first} {s} {now} {lines} o =
 -- where each lane's list is its history and so many samples, no lane takes one more
 pub are_full : (s : Solo) (frames : ℕ) → IsSolo s → frames_in s ≡ frames
     → ((i : ℕ) → i < length (lanes_of s) → length (lane_of (lanes_of s) i).items ≡ (lane_of (lanes_of s) i).history + frames) → AreFull (lanes_of s)
-are_full s frames sound e full = λ i l.
+are_full s frames valid e full = λ i l.
     let is = lane_is s i l in let there = there_of s i l in
-    let long = length_list s i sound there in
+    let long = length_list s i valid there in
     let f = sym (ap (λ (x : Lane). length x.items) is) ∙ full i l ∙ ap (λ (x : Lane). x.history + frames) is in
     ap (λ (x : Lane). x.room) is ∙ omega (arith, long, f, e)
 

@@ -10,7 +10,7 @@ use Rattle.fv_loopcode.specs.headline.Code.{Pass, opening, ran, IsStill}
 use Rattle.fv_loopcode.specs.Code.{MayPass, MayRun}
 use Rattle.fv_split_plan.specs.headline.View.{PlanView}
 use Rattle.fv_split_plan.specs.headline.Plans.{LoadsWithin, tables_alone}
-use Rattle.fv_split_plan.proofs.NodeLemmas.{listed}
+use Rattle.fv_split_plan.proofs.lemmas.NodeLemmas.{listed}
 
 module _ (p : PlanView) where
   abbrev Within : Step → Type 0

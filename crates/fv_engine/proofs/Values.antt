@@ -7,26 +7,26 @@ use Rattle.std.proofs.Math.ListN.{get_or-eq_default}
 use Rattle.fv_signal.specs.Words.{argument}
 use Rattle.fv_signal.specs.Frames.{Frame, Stream, column, back, table, rows}
 use Rattle.fv_signal.specs.Tables.{written, after}
-use Rattle.fv_base.proofs.Lists.{get_or_table, length_table, table_same, table_items}
+use Rattle.fv_base.proofs.lemmas.Lists.{get_or_table, length_table, table_same, table_items}
 use Rattle.fv_signal.specs.declared.signal.Signal.{Signal}
 use Rattle.fv_signal.specs.declared.signal.Signal.TheVariants as signal
 use Rattle.fv_signal.specs.headline.Value.{Graph, table_of, value}
-use Rattle.fv_signal.proofs.Solutions.{values_look_back}
+use Rattle.fv_signal.proofs.lemmas.Solutions.{values_look_back}
 use Rattle.fv_analysis.specs.headline.Stands.{node}
-use Rattle.fv_graph.proofs.Counts.{both_true, both_of}
+use Rattle.fv_graph.proofs.lemmas.Counts.{both_true, both_of}
 use Rattle.fv_loopcode.specs.Code.{frame_of}
 use Rattle.fv_loopcode.specs.headline.Obeys.{Place, OfLane, OfCells, Flows}
 use Rattle.fv_loopcode.specs.Obeys.{Content, ObeysAt, window, HoldsJust, HoldsAt, HaveTables}
 use Rattle.fv_loopcode.specs.headline.Lanes.{lane_of, sample_at}
 use Rattle.fv_loopcode.specs.headline.State.{State, list_at}
 use Rattle.fv_loopcode.specs.Blocks.{before}
-use Rattle.fv_loopcode.proofs.Streams.{streams_obey}
-use Rattle.fv_loopcode.proofs.Named.{named_alone_count}
+use Rattle.fv_loopcode.proofs.lemmas.Streams.{streams_obey}
+use Rattle.fv_loopcode.proofs.lemmas.Named.{named_alone_count}
 use Rattle.fv_split_plan.specs.headline.Separated.{AsWritten}
 use Rattle.fv_split_plan.specs.headline.View.{PlanView, code_of, roles_of, lane_info, cells_info}
 use Rattle.fv_split_plan.specs.headline.Fits.{flows, written_by}
 use Rattle.fv_split_plan.specs.headline.Plans.{PlanStands}
-use Rattle.fv_split_plan.proofs.NodeLemmas.{listed}
+use Rattle.fv_split_plan.proofs.lemmas.NodeLemmas.{listed}
 use Rattle.fv_engine_tasks.specs.Block.{Block, ObeysBlock, HoldUpTo, none_done}
 use Rattle.fv_engine.specs.inner.Plans.{NamesThere, held_by, block_from}
 use Rattle.fv_engine.specs.Stands.{EngineView, StandsFor, AreBegun, AreGiven}

@@ -27,7 +27,7 @@ pub(crate) fn alone<P: Codes, L: LaneStore, G: Gate>(
     output: &mut [i32],
     gate: &G,
 )
-    requires sound { L.is_sound lanes.old }
+    requires valid { L.is_valid lanes.old }
     requires lanes { length (L.lanes lanes.old) ≡ (P.parts job.now.plan.now).lanes }
     requires lists { length lists.old ≡ (P.parts job.now.plan.now).cells }
     requires job { IsJob (block_of P.parts job.now) runner.old.tasks.tasks }
@@ -40,7 +40,7 @@ pub(crate) fn alone<P: Codes, L: LaneStore, G: Gate>(
     ensures ends { EndsBlock runner.old.tasks.tasks (block_of P.parts job.now) (state_of plan.now (L.lanes lanes.old) lists.old)
         (state_of plan.now (L.lanes lanes.new) lists.new) runner.new.lines.items }
     ensures who { All (λ (line : Line). line.worker ≡ 0) runner.new.lines.items }
-    ensures sound { L.is_sound lanes.new }
+    ensures valid { L.is_valid lanes.new }
     ensures kept { L.rest lanes.new ≡ L.rest lanes.old }
     ensures samples { (t j : ℕ) → t < job.now.frames → j < length plan.now.outputs
         → slice_index_or output.new (t * length plan.now.outputs + j) (pos 0) ≡ sample_of (L.lanes lanes.new) t (slice_index_or plan.now.outputs j 0) }

@@ -18,7 +18,7 @@ impl<L: LaneStore> Store for Kept<'_, '_, '_, L> {
 
     ghost state = { λ s. state_of s.plan.now (L.lanes s.lanes.now) s.lists.now };
 
-    ghost is_sound = { λ s. L.is_sound s.lanes.now };
+    ghost is_valid = { λ s. L.is_valid s.lanes.now };
 
     ghost Rest = { KeptRest L.Rest };
 

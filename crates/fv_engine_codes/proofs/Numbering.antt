@@ -7,8 +7,8 @@ use Rattle.std.proofs.lemmas.List.{append_assoc, length-append, get_or_append_le
 use Rattle.std.proofs.Math.Seq.{take-suc, get_or-append_seam}
 use Rattle.fv_outside.specs.headline.Tasks.{bit}
 use Rattle.fv_outside.specs.Tasks.{times}
-use Rattle.fv_graph.proofs.Counts.{bit_same}
-use Rattle.fv_graph.proofs.ReadsLemmas.{stands}
+use Rattle.fv_graph.proofs.lemmas.Counts.{bit_same}
+use Rattle.fv_graph.proofs.lemmas.ReadsLemmas.{stands}
 use Rattle.fv_engine_codes.specs.inner.Numbered.{AreNumbered, AreOnce}
 
 pub times_append : (x : ℕ) (xs ys : List ℕ) → times x (xs ++ ys) ≡ times x xs + times x ys

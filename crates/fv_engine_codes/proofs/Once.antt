@@ -9,9 +9,9 @@ use Rattle.fv_outside.specs.headline.Tasks.{Tasks, bit, reads_loop}
 use Rattle.fv_outside.specs.Tasks.{times}
 use Rattle.fv_graph.specs.Words.{passing}
 use Rattle.fv_graph.specs.Graph.{IsGraph, pair_at}
-use Rattle.fv_graph.proofs.Counts.{bit_le, bit_same, bit_apart, bit_swap, bit_true, both_true, eq_of, one_of, map_miss, times_above, times_passing}
-use Rattle.fv_graph.proofs.ReadsLemmas.{map_rises, rises_once, stands, place, loop_place}
-use Rattle.fv_graph_core.proofs.Few.{few}
+use Rattle.fv_graph.proofs.lemmas.Counts.{bit_le, bit_same, bit_apart, bit_swap, bit_true, both_true, eq_of, one_of, map_miss, times_above, times_passing}
+use Rattle.fv_graph.proofs.lemmas.ReadsLemmas.{map_rises, rises_once, stands, place, loop_place}
+use Rattle.fv_graph_core.proofs.lemmas.Few.{few}
 use Rattle.fv_loopcode.specs.headline.Obeys.{OfLane}
 use Rattle.fv_split_plan.specs.headline.View.{PlanView, lane_info, roles_of}
 use Rattle.fv_split_plan.specs.headline.Plans.{PlanReads}

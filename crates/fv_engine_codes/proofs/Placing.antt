@@ -5,8 +5,8 @@ use Rattle.std.proofs.lemmas.List.{length-append, get_or_append_left}
 use Rattle.fv_outside.specs.headline.Tasks.{Tasks}
 use Rattle.fv_outside.specs.Tasks.{times}
 use Rattle.fv_graph.specs.Graph.{IsGraph}
-use Rattle.fv_graph.proofs.Counts.{bit_same, both_of}
-use Rattle.fv_graph.proofs.ReadsLemmas.{get_passing, place}
+use Rattle.fv_graph.proofs.lemmas.Counts.{bit_same, both_of}
+use Rattle.fv_graph.proofs.lemmas.ReadsLemmas.{get_passing, place}
 use Rattle.fv_loopcode.specs.headline.Obeys.{OfLane}
 use Rattle.fv_split_plan.specs.headline.View.{PlanView, lane_info, roles_of}
 use Rattle.fv_split_plan.specs.headline.Plans.{PlanReads}

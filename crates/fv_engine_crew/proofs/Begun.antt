@@ -4,10 +4,10 @@ use Rattle.std.proofs.lemmas.List.{length-map, get_or-map}
 use Rattle.std.specs.Prelude.{Vec}
 use Rattle.std.specs.declared.alloc.Global.{Global}
 use Rattle.fv_base.specs.headline.Lists.{table}
-use Rattle.fv_base.proofs.Lists.{table_same, table_items}
+use Rattle.fv_base.proofs.lemmas.Lists.{table_same, table_items}
 use Rattle.fv_loopcode.specs.headline.Lanes.{Lane, lane_of, no_lane}
 use Rattle.fv_pool.specs.Layout.{part}
-use Rattle.fv_lines.proofs.Parts.{length_part}
+use Rattle.fv_lines.proofs.lemmas.Parts.{length_part}
 use Rattle.fv_lines.specs.Solo.{history_at, len_at, start_at, held_at, opening_lanes}
 use Rattle.fv_lines.specs.Writer.{list_of, shape_of, written_by, frames_of}
 use Rattle.fv_lines.specs.declared.shape.LaneShape.{LaneShape}
@@ -16,7 +16,7 @@ use Rattle.fv_lines.specs.declared.writer.LaneWriter.{LaneWriter}
 use Rattle.fv_lines_cut.specs.Cut.{lengths_by, MayBegin, IsBegun, AreBegun}
 use Rattle.fv_engine_lanes.specs.Lanes.{lane_open}
 use Rattle.fv_engine_parcels.specs.Contents.{SameWriter}
-use Rattle.fv_engine_parcels.proofs.Handing.{element}
+use Rattle.fv_engine_parcels.proofs.lemmas.Handing.{element}
 use Rattle.fv_engine_crew.specs.declared.block.SpreadBlock.{SpreadBlock}
 use Rattle.fv_engine_crew.specs.Spread.{MayRunOver}
 use Rattle.fv_engine_crew.specs.inner.Lanes.{AreSame}

@@ -18,9 +18,9 @@ use Rattle.fv_engine_tasks.specs.headline.Block.{vectors_of}
 use Rattle.fv_engine_tasks.specs.Block.{HoldUpTo, none_done, IsReal}
 use Rattle.fv_engine_tasks.specs.Outputs.{CanRead, sample_of}
 use Rattle.fv_engine_tasks.specs.Underway.{EndsBlock}
-use Rattle.fv_engine_tasks.proofs.Full.{IsDone, can_read}
+use Rattle.fv_engine_tasks.proofs.lemmas.Full.{IsDone, can_read}
 use Rattle.fv_engine_lanes.specs.Lanes.{lane_open}
-use Rattle.fv_engine_parcels.proofs.Handing.{element}
+use Rattle.fv_engine_parcels.proofs.lemmas.Handing.{element}
 use Rattle.fv_engine_crew.specs.declared.block.SpreadBlock.{SpreadBlock}
 use Rattle.fv_engine_crew.specs.Ran.{Ran}
 use Rattle.fv_engine_crew.specs.Spread.{block_in, tasks_of, IsSpread, MayRunOver, opening_of}

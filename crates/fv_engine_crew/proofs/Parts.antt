@@ -7,7 +7,7 @@ use Rattle.std.proofs.lemmas.List.Sums.{sum_by-cons}
 use Rattle.std.proofs.Math.Seq.{drop-append-add}
 use Rattle.fv_num.specs.headline.Words.{argument}
 use Rattle.fv_base.specs.headline.Lists.{table}
-use Rattle.fv_base.proofs.Lists.{table_same, table_items}
+use Rattle.fv_base.proofs.lemmas.Lists.{table_same, table_items}
 use Rattle.fv_pool.specs.Layout.{part}
 use Rattle.fv_lines.specs.Solo.{len_at}
 use Rattle.fv_lines.specs.Writer.{content_of}

@@ -2,7 +2,7 @@
 use Rattle.std.proofs.Common.{◌≡◌, ℕ, ◌-◌, ◌<◌, List, [], length, map, get_or, refl, sym, ap, ◌∙◌, subst, arith, true, ℤ}
 use Rattle.std.specs.Prelude.{Vec, nat_lt, nat_eq}
 use Rattle.std.proofs.lemmas.Bool.{lt-ltb, eq-eqb}
-use Rattle.fv_graph.proofs.Counts.{both_of}
+use Rattle.fv_graph.proofs.lemmas.Counts.{both_of}
 use Rattle.std.specs.declared.alloc.Global.{Global}
 use Rattle.std.proofs.lemmas.List.{length-map}
 use Rattle.std.proofs.Math.Nat.{min-eq_right}
@@ -13,18 +13,18 @@ use Rattle.fv_loopcode.specs.Obeys.{Content, HoldsAt, HoldsJust}
 use Rattle.fv_split_plan.specs.Rows.{lists_of}
 use Rattle.fv_split_plan.specs.headline.View.{PlanView, cells_info}
 use Rattle.fv_base.specs.headline.Lists.{table}
-use Rattle.fv_base.proofs.Lists.{table_same, table_items}
+use Rattle.fv_base.proofs.lemmas.Lists.{table_same, table_items}
 use Rattle.fv_loopcode.specs.Blocks.{before}
 use Rattle.fv_lines.specs.Writer.{list_of}
 use Rattle.fv_lines.specs.declared.writer.LaneWriter.{LaneWriter}
 use Rattle.fv_engine_tasks.specs.headline.Block.{vectors_of}
 use Rattle.fv_engine_tasks.specs.Block.{Block, ObeysBlock, HoldUpTo, none_done, IsReal}
 use Rattle.fv_engine_tasks.specs.Jobs.{IsJob}
-use Rattle.fv_engine_tasks.proofs.Numbers.{enough}
+use Rattle.fv_engine_tasks.proofs.lemmas.Numbers.{enough}
 use Rattle.fv_engine_lanes.specs.Lanes.{lane_open}
 use Rattle.fv_engine_parcels.specs.Contents.{SameWriter, first_of, upto, IsContentOf}
 use Rattle.fv_engine_parcels.specs.declared.start.Start.{Start}
-use Rattle.fv_engine_parcels.proofs.Handing.{element}
+use Rattle.fv_engine_parcels.proofs.lemmas.Handing.{element}
 use Rattle.fv_engine_spread.specs.Collected.{AreAllWriters, AreAllCells}
 use Rattle.fv_engine_crew.specs.declared.block.SpreadBlock.{SpreadBlock}
 use Rattle.fv_engine_crew.specs.Spread.{block_in, tasks_of}

@@ -8,7 +8,7 @@ use Rattle.std.proofs.Math.Nat.{mul_assoc, add-mul, div-mul-le_self}
 use Rattle.std.proofs.lemmas.Bool.{cases_lt}
 use Rattle.std.proofs.lemmas.List.{append-nil}
 use Rattle.std.proofs.lemmas.Grind.{flat_map-append}
-use Rattle.fv_base.proofs.Lists.{length_table, prefix_trans}
+use Rattle.fv_base.proofs.lemmas.Lists.{length_table, prefix_trans}
 use Rattle.fv_base.specs.headline.Lists.{IsPrefixOf}
 use Rattle.fv_base.specs.declared.role.Role.TheVariants.{Input}
 use Rattle.fv_diagram.specs.Frames.{Frame, Stream, rows}
@@ -32,7 +32,7 @@ use Rattle.fv_file_tape.specs.declared.samples.InputSamples.{InputSamples}
 use Rattle.fv_file_tape.specs.declared.file_tape.OutputHead.{OutputHead}
 use Rattle.fv_file_tape.specs.declared.file_tape.Stop.{Stop}
 use Rattle.fv_file_tape.specs.declared.file_tape.Stop.TheVariants as stop
-use Rattle.fv_file_tape.proofs.Heard.{rows_fit}
+use Rattle.fv_file_tape.proofs.lemmas.Heard.{rows_fit}
 use Rattle.fv_engine_files.specs.Files.{AreTakenOf, HasPlayed, StopsAt, answered, bare, frames_at, frames_of, output_of}
 use Rattle.fv_engine_files.proofs.Heard.{frames_count, frames_few, frames_taken, heard_frames}
 

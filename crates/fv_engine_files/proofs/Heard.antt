@@ -5,14 +5,14 @@ use Rattle.std.proofs.Common.{arith, length-take}
 use Rattle.std.specs.Option.{ForSome}
 use Rattle.std.proofs.Math.Nat.{mul_assoc, mul_comm, div-le_of_le-mul}
 use Rattle.std.proofs.lemmas.List.{take_at}
-use Rattle.fv_base.proofs.Lists.{length_table}
+use Rattle.fv_base.proofs.lemmas.Lists.{length_table}
 use Rattle.fv_diagram.specs.Frames.{Frame, table, rows}
 use Rattle.fv_pcm.specs.Coded.{samples_in}
 use Rattle.fv_pcm.specs.headline.Sizes.{frame_size, stated_frames, whole_bytes, present}
 use Rattle.fv_pcm.specs.Sizes.{SamplesFollow, frames_in}
 use Rattle.fv_file_tape.specs.Tapes.{IsInput, AreTaken, AreHeard, channels_of, layout_of}
 use Rattle.fv_file_tape.specs.declared.samples.InputSamples.{InputSamples}
-use Rattle.fv_file_tape.proofs.Heard.{rows_fit, table_add}
+use Rattle.fv_file_tape.proofs.lemmas.Heard.{rows_fit, table_add}
 use Rattle.fv_engine_files.specs.Files.{AreTakenOf, bare, frames_at}
 
 -- ---- frames of no samples

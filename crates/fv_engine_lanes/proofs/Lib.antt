@@ -1,4 +1,4 @@
-pub mod CellsSet
+pub mod lemmas
 pub mod Renumbering
-pub mod Sound
+pub mod Valid
 pub mod Writing

@@ -11,7 +11,7 @@ use Rattle.fv_lines.specs.Writer.{list_of, part_of, outer_of, written_by, frames
 use Rattle.fv_lines.specs.Seen.{lane_seen}
 use Rattle.fv_lines.specs.declared.writer.LaneWriter.{LaneWriter}
 use Rattle.fv_lines.specs.declared.seen.Seen.{Seen}
-use Rattle.fv_lines.proofs.Tables.{made, made_more}
+use Rattle.fv_lines.proofs.lemmas.Tables.{made, made_more}
 use Rattle.fv_lines.specs.declared.shape.LaneShape.{LaneShape}
 use Rattle.fv_engine_lanes.specs.Lanes.{lane_open, rest_of_writer}
 

@@ -29,8 +29,8 @@ abbrev pub state_in : LoopLanes → State
 state_in s = record { lanes = lanes_in s; tables = s.cells.plan.now.tables; cells = cells_of s.cells }
 
 -- its cells have places
-abbrev pub AreLanesSound : LoopLanes → Type 0
-AreLanesSound s = AreCellsPlaced s.cells
+abbrev pub AreLanesValid : LoopLanes → Type 0
+AreLanesValid s = AreCellsPlaced s.cells
 
 -- what no append changes of a writer: its part's loan, what ties it, its shape, and how many samples are to be written
 pub record WriterRest : Type 0 where

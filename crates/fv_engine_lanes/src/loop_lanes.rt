@@ -14,11 +14,11 @@ pub struct LoopLanes<'a, 'b> {
 }
 
 impl<'a, 'b> Store for LoopLanes<'a, 'b> {
-    ghost use Rattle.fv_engine_lanes.specs.Lanes.{state_in, AreLanesSound, LanesRest, rest_in};
+    ghost use Rattle.fv_engine_lanes.specs.Lanes.{state_in, AreLanesValid, LanesRest, rest_in};
 
     ghost state = { λ s. state_in s };
 
-    ghost is_sound = { λ s. AreLanesSound s };
+    ghost is_valid = { λ s. AreLanesValid s };
 
     ghost Rest = { LanesRest };
 

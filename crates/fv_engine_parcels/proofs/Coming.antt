@@ -5,15 +5,15 @@ use Rattle.std.proofs.lemmas.List.{reverse-append, length-reverse, get_or-revers
 use Rattle.std.proofs.Math.Nat.{le-div_iff_mul-le, suc-mul}
 use Rattle.fv_graph.specs.Words.{passing}
 use Rattle.fv_graph.specs.Graph.{stride, place_in, pair_at, pair_edge, chain_edge, task_at, inward}
-use Rattle.fv_graph.proofs.ReadsLemmas.{get_passing}
+use Rattle.fv_graph.proofs.lemmas.ReadsLemmas.{get_passing}
 use Rattle.fv_engine_lanes.specs.Plans.{lanes_of_all, sources_of}
 use Rattle.fv_engine_parcels.specs.Contents.{tasks_in, AreHandedOn}
 use Rattle.fv_engine_parcels.specs.inner.Turns.{lanes_by, IsChainAt}
 use Rattle.fv_engine_parcels.specs.declared.start.Start.{Start}
 use Rattle.fv_engine_parcels.specs.declared.content.Writers.{Writers}
 use Rattle.fv_engine_parcels.specs.declared.parcel.LoopParcel.{LoopParcel}
-use Rattle.fv_engine_parcels.proofs.Edges.{inward_is, chain_is_at, sources_by}
-use Rattle.fv_engine_parcels.proofs.Handing.{edges_push}
+use Rattle.fv_engine_parcels.proofs.lemmas.Edges.{inward_is, chain_is_at, sources_by}
+use Rattle.fv_engine_parcels.proofs.lemmas.Handing.{edges_push}
 
 -- the first edge and the others
 record Split (ps : List LoopParcel) (e : ℕ) (es : List ℕ) : Type 0 where

@@ -1,7 +1,6 @@
 pub mod Coming
-pub mod Edges
+pub mod lemmas
 pub mod Gathering
-pub mod Handing
 pub mod Props
 pub mod Running
 pub mod Tasking

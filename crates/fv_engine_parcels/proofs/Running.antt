@@ -11,7 +11,7 @@ use Rattle.fv_loopcode.specs.headline.Code.{ran}
 use Rattle.fv_loopcode.specs.Code.{MayRun, frame_of}
 use Rattle.fv_loopcode.specs.headline.Obeys.{Place, OfLane, OfCells}
 use Rattle.fv_loopcode.specs.Obeys.{Content, ObeysAt, HoldsAt, HoldsJust, IsThere, HaveTables, IsReady, IsTaskDone, TasksAreDone}
-use Rattle.fv_graph.proofs.Counts.{both_of, both_true, eq_of}
+use Rattle.fv_graph.proofs.lemmas.Counts.{both_of, both_true, eq_of}
 use Rattle.fv_split_plan.specs.headline.View.{cells_info, code_of, roles_of}
 use Rattle.fv_engine_lanes.specs.Renumbered.{is_among, roles_over, content_over, RenumberedCodeObeys}
 use Rattle.fv_engine_parcels.specs.Contents.{IsContentOf}

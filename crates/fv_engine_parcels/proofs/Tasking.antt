@@ -5,7 +5,7 @@ use Rattle.std.proofs.Math.Logic.{∥∥₁_elim}
 use Rattle.std.proofs.lemmas.Bool.{cases_lt}
 use Rattle.std.proofs.lemmas.List.{length-append, length-map, get_or_append_left, get_or-append_right, get_or-map}
 use Rattle.std.proofs.Math.Nat.{min-eq_left, min-eq_right, min-le_right, suc-mul, ℕ_set}
-use Rattle.fv_base.proofs.Lists.{length_table}
+use Rattle.fv_base.proofs.lemmas.Lists.{length_table}
 use Rattle.fv_loopcode.specs.headline.Lanes.{Lane, lane_of, no_lane}
 use Rattle.fv_split_plan.specs.headline.View.{PlanView}
 use Rattle.fv_loopcode.specs.Obeys.{Content, Holds, HoldsJust}
@@ -20,7 +20,7 @@ use Rattle.fv_engine_lanes.specs.Plans.{own_lanes, locals_of, lanes_of_all, sour
 use Rattle.fv_engine_parcels.specs.Contents.{tasks_in, upto, IsContentOf, IsRealStart, SameWriter, AreWritersOf, AreSeenOf, AreCellsOf}
 use Rattle.fv_engine_parcels.specs.inner.Turns.{Before, After}
 use Rattle.fv_engine_parcels.specs.declared.start.Start.{Start}
-use Rattle.fv_engine_parcels.proofs.Handing.{element}
+use Rattle.fv_engine_parcels.proofs.lemmas.Handing.{element}
 
 -- what a task's places hold before it, from its parcels
 pub before_of : (k : Start) (j v : ℕ) (ws : List LaneWriter) (ss : List Seen) (cs : LoopCells) → AreWritersOf k (own_lanes k.plan.now j) v ws

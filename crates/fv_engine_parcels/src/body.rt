@@ -5,7 +5,7 @@ ghost use Rattle.fv_loopcode.specs.Code.{IsWithin};
 ghost use Rattle.fv_split_plan.specs.headline.View.{code_of};
 ghost use Rattle.fv_lines.specs.Seen.{lane_seen};
 ghost use Rattle.fv_lines.specs.Writer.{lane_written};
-ghost use Rattle.fv_engine_lanes.specs.Lanes.{state_in, AreLanesSound, rest_in};
+ghost use Rattle.fv_engine_lanes.specs.Lanes.{state_in, AreLanesValid, rest_in};
 ghost use Rattle.fv_engine_parcels.specs.Bodies.{IsBody};
 ghost use Rattle.fv_engine_parcels.specs.Contents.{lanes_seen, list_room, AreSeenOf, AreHandedOn, IsRealStart, tasks_in};
 ghost use Rattle.fv_engine_parcels.specs.inner.Turns.{Known, Before, After, IsPairAt, IsPairFrom, IsChainAt, lanes_by};
@@ -77,12 +77,12 @@ impl<'a, 'b> LoopBody<'a, 'b> {
         requires real { ∥ IsRealStart self.now.start ∥₁ }
         requires within { All (λ s. IsWithin (length self.now.start.held.now) self.now.start.channels s) (slice_index_or self.now.codes.now task.loop_no []) }
         requires input { self.now.start.frames * self.now.start.channels ≤ length self.now.start.input.now }
-        requires sound { AreLanesSound writers.old.lanes }
+        requires valid { AreLanesValid writers.old.lanes }
         requires before { Before self.now.start task.loop_no task.vector (state_in writers.old.lanes) }
         requires rows { length (slice_index_or self.now.codes.now task.loop_no []) * 32 ≤ length writers.old.rows.items }
         requires regs { length writers.old.regs.items ≡ length (slice_index_or self.now.codes.now task.loop_no []) }
         ensures after { After self.now.start task.loop_no task.vector (state_in writers.new.lanes) }
-        ensures sound { AreLanesSound writers.new.lanes }
+        ensures valid { AreLanesValid writers.new.lanes }
         ensures kept { rest_in writers.new.lanes ≡ rest_in writers.old.lanes }
         ensures rows { length writers.new.rows.items ≡ length writers.old.rows.items }
         ensures regs { length writers.new.regs.items ≡ length writers.old.regs.items }

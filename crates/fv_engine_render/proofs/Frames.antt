@@ -5,7 +5,7 @@ use Rattle.std.proofs.Math.Seq.{take-add}
 use Rattle.std.proofs.lemmas.List.{append-nil, take_all}
 use Rattle.std.proofs.lemmas.List.Elements.{All-get_or}
 use Rattle.std.proofs.lemmas.Grind.{flat_map-append}
-use Rattle.fv_base.proofs.Lists.{table_same, table_items}
+use Rattle.fv_base.proofs.lemmas.Lists.{table_same, table_items}
 use Rattle.fv_num.specs.headline.Words.{argument}
 use Rattle.fv_num.specs.headline.Frames.{Frame, Stream, column, table, rows, joined}
 use Rattle.fv_num.specs.headline.Interval.{Interval}
@@ -16,7 +16,7 @@ use Rattle.fv_diagram.specs.Laws.{AnswersEach, AnswersWide}
 use Rattle.fv_signal.specs.headline.Value.{Graph, value}
 use Rattle.fv_propagate.specs.headline.Propagated.{AreTaken, Propagates}
 use Rattle.fv_engine.specs.Stands.{played}
-use Rattle.fv_num.proofs.Parts.{part_is}
+use Rattle.fv_num.proofs.lemmas.Parts.{part_is}
 use Rattle.fv_engine_render.proofs.Samples.{cells_same}
 
 -- frames of one width are a table

@@ -5,7 +5,7 @@ use Rattle.std.proofs.lemmas.List.{get_or-take, get_or-drop, get_or_append_left}
 use Rattle.std.specs.Prelude.{slice_index_or}
 use Rattle.fv_num.specs.headline.Words.{argument}
 use Rattle.fv_num.specs.headline.Frames.{Frame, Stream, column, table, rows}
-use Rattle.fv_base.proofs.Lists.{table_same, length_table}
+use Rattle.fv_base.proofs.lemmas.Lists.{table_same, length_table}
 use Rattle.fv_signal.specs.headline.Value.{Graph, value}
 use Rattle.fv_signal.specs.Value.{ValuesLookBack}
 use Rattle.fv_split_plan.specs.headline.Plans.{PlanStands}

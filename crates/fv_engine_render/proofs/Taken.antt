@@ -7,7 +7,7 @@ use Rattle.std.specs.Prelude.{int_le}
 use Rattle.std.proofs.lemmas.Int.{ints}
 use Rattle.std.proofs.lemmas.List.{get_or-map, get_or_past, length-map}
 use Rattle.std.proofs.lemmas.List.Elements.{All-get_or, All-from_get_or}
-use Rattle.fv_base.proofs.Lists.{get_or_table, length_table}
+use Rattle.fv_base.proofs.lemmas.Lists.{get_or_table, length_table}
 use Rattle.fv_num.specs.headline.Words.{argument}
 use Rattle.fv_num.specs.headline.Frames.{Frame, column, table, rows}
 use Rattle.fv_num.specs.headline.Interval.{Interval, IsSpan, IsWithin, full, point}

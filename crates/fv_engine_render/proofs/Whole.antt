@@ -3,7 +3,7 @@ use Rattle.std.proofs.Common.{◌≡◌, ℕ, zero, suc, ◌+◌, ◌*◌, ◌�
 use Rattle.std.specs.Prelude.{Result, Ok, Err, IfOk}
 use Rattle.std.proofs.Math.Nat.{mul-le-mul_left}
 use Rattle.std.proofs.lemmas.Bool.{cond-true}
-use Rattle.fv_base.proofs.Lists.{length_table}
+use Rattle.fv_base.proofs.lemmas.Lists.{length_table}
 use Rattle.fv_num.specs.headline.Words.{argument}
 use Rattle.fv_num.specs.headline.Frames.{Stream, table, rows}
 use Rattle.fv_outside.specs.headline.Journal.{Told}

@@ -5,7 +5,7 @@ use Rattle.std.specs.declared.alloc.Global.{Global}
 use Rattle.std.specs.Global.{Box}
 use Rattle.std.proofs.lemmas.Bool.{cases_eq}
 use Rattle.std.proofs.lemmas.List.{length-map, length-set, map-set, get_or-map, get_or-set_same, get_or-set_other}
-use Rattle.fv_graph.proofs.Counts.{get_set}
+use Rattle.fv_graph.proofs.lemmas.Counts.{get_set}
 use Rattle.fv_loopcode_machine.specs.State.{list_at}
 use Rattle.fv_split_plan.specs.headline.View.{PlanView, cells_info}
 use Rattle.fv_split_plan.specs.Rows.{lists_of}

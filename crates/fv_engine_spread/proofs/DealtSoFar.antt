@@ -3,7 +3,7 @@ use Rattle.std.proofs.Common.{◌≡◌, ℕ, ◌+◌, ◌<◌, ◌≤◌, List,
 use Rattle.std.specs.Global.{Box}
 use Rattle.std.proofs.lemmas.List.{length-append, map-append}
 use Rattle.fv_split_plan.specs.TasksBeside.{Tasks}
-use Rattle.fv_graph.proofs.Counts.{get_set}
+use Rattle.fv_graph.proofs.lemmas.Counts.{get_set}
 use Rattle.fv_split_plan.specs.headline.View.{PlanView, lane_info}
 use Rattle.fv_lines.specs.declared.writer.LaneWriter.{LaneWriter}
 use Rattle.fv_engine_lanes.specs.Plans.{own_lanes}

@@ -9,8 +9,8 @@ use Rattle.fv_engine_parcels.specs.declared.content.Writers.{Writers}
 use Rattle.fv_engine_parcels.specs.declared.content.Content.TheVariants as holding
 use Rattle.fv_engine_parcels.specs.declared.parcel.LoopParcel.{LoopParcel}
 use Rattle.fv_engine_parcels.specs.Contents.{tasks_in, AreHandedOn, IsContent}
-use Rattle.fv_engine_parcels.proofs.Edges.{chain_is_at}
-use Rattle.fv_engine_parcels.proofs.Handing.{content_writers}
+use Rattle.fv_engine_parcels.proofs.lemmas.Edges.{chain_is_at}
+use Rattle.fv_engine_parcels.proofs.lemmas.Handing.{content_writers}
 use Rattle.fv_steal_block.specs.Parcels.{AreParcelsFrom}
 use Rattle.fv_engine_spread.specs.Entries.{AreEntered}
 

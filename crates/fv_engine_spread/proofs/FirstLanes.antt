@@ -3,7 +3,7 @@ use Rattle.std.proofs.Common.{◌≡◌, ◌≢◌, ℕ, zero, suc, ◌+◌, ◌
 use Rattle.std.proofs.Common.{ap, ◌∙◌, arith, ◌==◌, eq-eqb, ne_eqb}
 use Rattle.std.proofs.lemmas.List.{append-nil, length-append}
 use Rattle.fv_graph.specs.Words.{passing}
-use Rattle.fv_graph.proofs.Grouping.{passing_next}
+use Rattle.fv_graph.proofs.lemmas.Grouping.{passing_next}
 use Rattle.fv_split_plan.specs.headline.View.{PlanView, lane_info}
 use Rattle.fv_engine_lanes.specs.Plans.{own_lanes}
 

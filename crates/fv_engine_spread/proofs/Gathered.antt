@@ -12,7 +12,7 @@ use Rattle.fv_engine_lanes.specs.Cells.{ArePlaced}
 use Rattle.fv_engine_parcels.specs.declared.start.Start.{Start}
 use Rattle.fv_engine_parcels.specs.declared.content.Writers.{Writers}
 use Rattle.fv_engine_parcels.specs.Contents.{tasks_in, AreWritersOf, AreCellsOf}
-use Rattle.fv_engine_parcels.proofs.Handing.{element}
+use Rattle.fv_engine_parcels.proofs.lemmas.Handing.{element}
 use Rattle.fv_engine_spread.specs.Collected.{AreAllCells}
 use Rattle.fv_engine_spread.specs.Entries.{AreLoopsWriters, AreLoopsLanes}
 use Rattle.fv_engine_spread.specs.Swapped.{HaveSlots, AreSwapped}

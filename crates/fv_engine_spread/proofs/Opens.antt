@@ -5,9 +5,9 @@ use Rattle.std.specs.Global.{Vec, Box}
 use Rattle.std.specs.Prelude.{min}
 use Rattle.std.proofs.lemmas.List.{get_or-map}
 use Rattle.std.proofs.Math.Nat.{min-eq_left}
-use Rattle.fv_graph.proofs.Counts.{both_of}
-use Rattle.fv_graph.proofs.Grouping.{get_any}
-use Rattle.fv_graph.proofs.ReadsLemmas.{get_passing}
+use Rattle.fv_graph.proofs.lemmas.Counts.{both_of}
+use Rattle.fv_graph.proofs.lemmas.Grouping.{get_any}
+use Rattle.fv_graph.proofs.lemmas.ReadsLemmas.{get_passing}
 use Rattle.fv_loopcode_machine.specs.Lanes.{no_lane}
 use Rattle.fv_split_plan.specs.Obeys.{OfLane, OfCells}
 use Rattle.fv_split_plan.specs.ObeysBeside.{HoldsJust}

@@ -9,7 +9,7 @@ use Rattle.fv_split_plan.specs.Rows.{lists_of}
 use Rattle.fv_engine_lanes.specs.Cells.{by_number, cells_of}
 use Rattle.fv_engine_lanes.specs.declared.loop_cells.CellPlaces.{CellPlaces}
 use Rattle.fv_engine_lanes.specs.declared.loop_cells.LoopCells.{LoopCells}
-use Rattle.fv_engine_lanes.proofs.CellsSet.{own_at}
+use Rattle.fv_engine_lanes.proofs.lemmas.CellsSet.{own_at}
 use Rattle.fv_engine_parcels.specs.declared.start.Start.{Start}
 use Rattle.fv_engine_parcels.specs.declared.content.Writers.{Writers}
 use Rattle.fv_engine_spread.specs.Swapped.{cells_in, slot}

@@ -4,7 +4,7 @@ use Rattle.std.specs.Prelude.{reverse}
 use Rattle.std.specs.Global.{Box}
 use Rattle.std.proofs.lemmas.List.{length-append, length-reverse, get_or_append_left, reverse-append}
 use Rattle.std.proofs.Math.Seq.{get_or-append_seam}
-use Rattle.fv_graph.proofs.Counts.{get_set}
+use Rattle.fv_graph.proofs.lemmas.Counts.{get_set}
 use Rattle.fv_split_plan.specs.headline.View.{PlanView, lane_info}
 use Rattle.fv_split_plan.specs.declared.lane.LaneInfo.{LaneInfo}
 use Rattle.fv_lines.specs.declared.writer.LaneWriter.{LaneWriter}

@@ -9,11 +9,11 @@ use Rattle.fv_outside.specs.declared.gate.Line.{Line}
 use Rattle.fv_graph.specs.Graph.{task_at}
 use Rattle.fv_graph_core.specs.Core.{Now, is_done}
 use Rattle.fv_loopcode.specs.headline.State.{State}
-use Rattle.fv_graph.proofs.Counts.{total_zero}
+use Rattle.fv_graph.proofs.lemmas.Counts.{total_zero}
 use Rattle.fv_engine_tasks.specs.Block.{Block}
 use Rattle.fv_engine_tasks.specs.Jobs.{IsJob, left_to_do}
 use Rattle.fv_engine_tasks.specs.Underway.{IsUnderway, EndsBlock}
-use Rattle.fv_engine_tasks.proofs.Numbers.{below}
+use Rattle.fv_engine_tasks.proofs.lemmas.Numbers.{below}
 use Rattle.fv_engine_tasks.proofs.JournalLemmas.{ordered}
 
 neither : (a b c d : Bool) → b ≡ false → c ≡ false → ((a && b) || (c && d)) ≡ false

@@ -10,7 +10,7 @@ use Rattle.fv_graph_core.specs.Core.{Now, is_run, deque_of, run_of, owes_of, is_
 use Rattle.fv_graph_core.specs.Law.{AllLeft}
 use Rattle.fv_graph_core.specs.Running.{Running}
 use Rattle.fv_graph_core.specs.declared.event.Event.TheVariants.{Take, Finish, Arrive, Leave}
-use Rattle.fv_graph.proofs.Counts.{bit_same, both_of}
+use Rattle.fv_graph.proofs.lemmas.Counts.{bit_same, both_of}
 use Rattle.fv_engine_tasks.specs.Events.{IsFree, Runs, Owes, KeepsCore}
 
 abbrev free : List (Option ℕ) → List (List ℕ) → List Bool → Bool

@@ -7,7 +7,7 @@ use Rattle.fv_outside.specs.headline.Tasks.{Tasks, bit, reads_task}
 use Rattle.fv_outside.specs.headline.Journal.{IsOrdered, stamped}
 use Rattle.fv_outside.specs.declared.tasks.Task.{Task}
 use Rattle.fv_outside.specs.declared.gate.Line.{Line}
-use Rattle.fv_graph.proofs.Counts.{bit_le, bit_apart}
+use Rattle.fv_graph.proofs.lemmas.Counts.{bit_le, bit_apart}
 use Rattle.fv_engine_tasks.specs.Underway.{line_at, no_line, IsTaskIn, IsSoFar}
 
 -- the stamps of a line at place k

@@ -11,9 +11,9 @@ use Rattle.fv_outside.specs.declared.tasks.Task.{Task}
 use Rattle.fv_outside.specs.declared.gate.Line.{Line}
 use Rattle.fv_graph.specs.Graph.{task_at, loop_of, vector_of}
 use Rattle.fv_graph_core.specs.Core.{Now, is_done}
-use Rattle.fv_graph.proofs.Counts.{total_append, total_set, bit_same, both_of, either_left, either_right}
-use Rattle.fv_graph.proofs.Graphs.{unique}
-use Rattle.fv_graph.proofs.Ranges.{quotient_small}
+use Rattle.fv_graph.proofs.lemmas.Counts.{total_append, total_set, bit_same, both_of, either_left, either_right}
+use Rattle.fv_graph.proofs.lemmas.Graphs.{unique}
+use Rattle.fv_graph.proofs.lemmas.Ranges.{quotient_small}
 use Rattle.fv_loopcode.specs.headline.State.{State}
 use Rattle.fv_loopcode.specs.headline.Code.{ran}
 use Rattle.fv_loopcode.specs.Code.{MayRun, frame_of}
@@ -25,7 +25,7 @@ use Rattle.fv_engine_tasks.specs.Events.{IsFree}
 use Rattle.fv_engine_tasks.specs.Jobs.{IsJob, left_to_do}
 use Rattle.fv_graph_core.specs.Ready.{TakesReady}
 use Rattle.fv_engine_tasks.specs.Underway.{IsTaskIn, IsSoFar, IsUnderway, line_at, no_line}
-use Rattle.fv_engine_tasks.proofs.Numbers.{at, number_is, below, inside, same_step}
+use Rattle.fv_engine_tasks.proofs.lemmas.Numbers.{at, number_is, below, inside, same_step}
 
 more_same : (j : ℕ) (f : ℕ → ℕ) → one_more j f j ≡ suc (f j)
 more_same j f = cond-true (nat_eq j j) (suc (f j)) (f j) (eq-eqb j j refl)

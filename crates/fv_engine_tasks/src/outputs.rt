@@ -7,7 +7,7 @@ use fv_loopcode::Store;
 
 // One frame of them.
 fn copy_frame<S: Store>(lanes: &[u64], index: u64, store: &S, frame: &mut [i32])
-    requires sound { S.is_sound store.now }
+    requires valid { S.is_valid store.now }
     requires long { length frame.old ≡ length lanes.now }
     requires small { index < 2 ^ 32 }
     requires there { All (CanRead (S.state store.now).lanes index) lanes.now }
@@ -20,7 +20,7 @@ fn copy_frame<S: Store>(lanes: &[u64], index: u64, store: &S, frame: &mut [i32])
 
 /// Copies so many frames of these lanes, one after another, from the block's first sample on.
 pub fn copy_outputs<S: Store>(lanes: &[u64], frames: u64, store: &S, output: &mut [i32])
-    requires sound { S.is_sound store.now }
+    requires valid { S.is_valid store.now }
     requires long { length output.old ≡ frames * length lanes.now }
     requires small { frames < 2 ^ 32 }
     requires there { (t : ℕ) → t < frames → All (CanRead (S.state store.now).lanes t) lanes.now }

@@ -44,7 +44,7 @@ fn run_task<P: Codes, S: Store>(
     regs: &mut [i32],
     store: &mut S,
 )
-    requires sound { S.is_sound store.old }
+    requires valid { S.is_valid store.old }
     requires there { task.loop_no < (P.parts job.now.plan.now).count }
     requires inside { task.vector * job.now.vector < job.now.frames }
     requires rows { length ((P.parts job.now.plan.now).loops.code task.loop_no) * 32 ≤ length rows.old }
@@ -60,7 +60,7 @@ fn run_task<P: Codes, S: Store>(
         (frame_of job.now.input.now job.now.channels) (before job.now.vector job.now.frames task.vector)
         (before job.now.vector job.now.frames (suc task.vector) - before job.now.vector job.now.frames task.vector)
         (S.state store.old) }
-    ensures sound { S.is_sound store.new }
+    ensures valid { S.is_valid store.new }
     ensures kept { S.rest store.new ≡ S.rest store.old }
     ensures regs { length regs.new ≡ length regs.old }
 {
@@ -150,12 +150,12 @@ fn turn<P: Codes, S: Store, G: Gate>(
     requires rows { RowsFit (P.parts job.now.plan.now) (length rows.old) }
     requires regs { RegistersFit (P.parts job.now.plan.now) (length regs.old) }
     requires room { task_count tasks.now.tasks ≤ vec_capacity lines.old }
-    requires sound { S.is_sound store.old }
+    requires valid { S.is_valid store.old }
     requires underway { (first : State) × IsReal (block_of P.parts job.now) first
         × IsUnderway tasks.now.tasks (block_of P.parts job.now) first core.old.now (S.state store.old) lines.old.items }
     ensures core { KeepsCore core.old core.new }
     ensures kept { S.rest store.new ≡ S.rest store.old }
-    ensures sound { S.is_sound store.new }
+    ensures valid { S.is_valid store.new }
     ensures rows { length rows.new ≡ length rows.old }
     ensures regs { length regs.new ≡ length regs.old }
     ensures room { vec_capacity lines.new ≡ vec_capacity lines.old }
@@ -212,12 +212,12 @@ pub fn run_tasks<P: Codes, S: Store, G: Gate>(
     requires rows { RowsFit (P.parts job.now.plan.now) (length rows.old) }
     requires regs { RegistersFit (P.parts job.now.plan.now) (length regs.old) }
     requires room { task_count tasks.now.tasks ≤ vec_capacity lines.old }
-    requires sound { S.is_sound store.old }
+    requires valid { S.is_valid store.old }
     requires underway { (first : State) × IsReal (block_of P.parts job.now) first
         × IsUnderway tasks.now.tasks (block_of P.parts job.now) first core.old.now (S.state store.old) lines.old.items }
     ensures core { KeepsCore core.old core.new }
     ensures kept { S.rest store.new ≡ S.rest store.old }
-    ensures sound { S.is_sound store.new }
+    ensures valid { S.is_valid store.new }
     ensures rows { length rows.new ≡ length rows.old }
     ensures regs { length regs.new ≡ length regs.old }
     ensures room { vec_capacity lines.new ≡ vec_capacity lines.old }

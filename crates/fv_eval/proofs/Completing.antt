@@ -23,7 +23,7 @@ use Rattle.fv_eval_scopes.specs.Shows.{World, Grows, IsInside, ShowsBindings, Sh
 use Rattle.fv_eval_scopes.specs.Shows.{rules_in}
 use Rattle.fv_eval_patterns.specs.Patterns.{with_diagrams}
 use Rattle.fv_eval_choosing.specs.Chosen.{ShowsChoice}
-use Rattle.fv_eval_scopes.proofs.Grown.{env_grows, tree_grows, values_grow}
+use Rattle.fv_eval_scopes.proofs.lemmas.Grown.{env_grows, tree_grows, values_grow}
 use Rattle.fv_eval_machine.specs.Machine.{Leftover, Valued, Visit, Running, Ended, select}
 use Rattle.fv_eval.specs.declared.continuation.Focus as code_focus
 use Rattle.fv_eval.specs.declared.machine.Machine as code_machine

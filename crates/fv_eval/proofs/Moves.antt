@@ -14,11 +14,11 @@ use Rattle.fv_eval_scopes.specs.Environments.{Environments, with_scope}
 use Rattle.fv_rules.specs.headline.Values.{Value, Flat, Env}
 use Rattle.fv_rules.specs.headline.Steps.{State, Outcome, Eval}
 use Rattle.fv_eval_scopes.specs.Shows.{Grows, ShowsTree, ShowsValue, ShowsEnv}
-use Rattle.fv_eval_scopes.proofs.Grown.{diagrams_come, scope_opens, grows_on}
+use Rattle.fv_eval_scopes.proofs.lemmas.Grown.{diagrams_come, scope_opens, grows_on}
 use Rattle.fv_eval_patterns.specs.Remembered.{Remembered}
 use Rattle.fv_eval_patterns.specs.Trials.{Recalls}
-use Rattle.fv_eval_patterns.proofs.LongPatterns.{recalls_grow}
-use Rattle.fv_eval_choosing.proofs.Skipped.{shortcuts_grow}
+use Rattle.fv_eval_patterns.proofs.lemmas.LongPatterns.{recalls_grow}
+use Rattle.fv_eval_choosing.proofs.lemmas.Skipped.{shortcuts_grow}
 use Rattle.fv_eval_machine.specs.Machine.{Continuation, Visit, Give, Config, Running, Ended, given}
 use Rattle.fv_eval.specs.declared.continuation.Focus as code_focus
 use Rattle.fv_eval.specs.declared.continuation.Focus.TheVariants as focus

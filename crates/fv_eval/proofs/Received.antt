@@ -15,7 +15,7 @@ use Rattle.fv_diagram.specs.declared.node.Primitive.TheVariants as prim
 use Rattle.fv_diagram.specs.headline.Diagram.{Diagram, Primitive, Constant, Seq}
 use Rattle.fv_diagram.specs.Arena.{tree_of}
 use Rattle.fv_eval_drawing.specs.Makes.{Canvas, Extends, Makes, MakesValue, trees_of}
-use Rattle.fv_eval_drawing.proofs.Gathered.{as_value}
+use Rattle.fv_eval_drawing.proofs.lemmas.Gathered.{as_value}
 use Rattle.fv_rules.specs.declared.refusal.EvalRefusal.{EvalRefusal}
 use Rattle.fv_eval_scopes.specs.declared.value.Value as code_value
 use Rattle.fv_eval_scopes.specs.declared.value.Value.TheVariants as value

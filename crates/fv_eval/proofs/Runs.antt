@@ -11,7 +11,7 @@ use Rattle.std.specs.Prelude.{slice_get}
 use Rattle.std.proofs.lemmas.Option.{none-some}
 use Rattle.fv_eval_patterns.specs.Remembered.{nothing}
 use Rattle.fv_eval_patterns.specs.Trials.{Recalls}
-use Rattle.fv_eval_patterns.proofs.LongPatterns.{recalls_nothing}
+use Rattle.fv_eval_patterns.proofs.lemmas.LongPatterns.{recalls_nothing}
 use Rattle.fv_eval_choosing.specs.declared.shortcuts.Shortcut.{Shortcut}
 use Rattle.fv_eval_choosing.specs.Shortcuts.{AreShortcuts}
 use Rattle.fv_rules.specs.declared.refusal.EvalRefusal.{EvalRefusal}

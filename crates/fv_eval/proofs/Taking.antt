@@ -14,7 +14,7 @@ use Rattle.fv_eval_scopes.specs.Environments.{Environments, with_argument, with_
 use Rattle.fv_rules.specs.headline.Values.{Name, Value, Flat, Abstraction, Rules, Env, Bound, Taken, Nothing, And, count_taken}
 use Rattle.fv_rules.specs.headline.Rules.{width}
 use Rattle.fv_eval_scopes.specs.Shows.{World, IsNamed, ShowsEnv, ShowsTaken, ShowsValue, parameters_in, rules_in}
-use Rattle.fv_eval_scopes.proofs.Grown.{argument_comes, bound_shows, env_grows, taken_shows}
+use Rattle.fv_eval_scopes.proofs.lemmas.Grown.{argument_comes, bound_shows, env_grows, taken_shows}
 use Rattle.fv_eval.specs.declared.machine.Machine as code_machine
 use Rattle.fv_eval.specs.inner.Continuations.{Grew, IsShown, ShowsName, ShowsTaking, took, world}
 use Rattle.fv_eval.proofs.Places.{drop_behind, get_at_drop}

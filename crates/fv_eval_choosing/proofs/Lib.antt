@@ -5,5 +5,5 @@ pub mod Past
 pub mod Refused
 pub mod RuleNodes
 pub mod RulesChosen
-pub mod Skipped
+pub mod lemmas
 pub mod Wanting

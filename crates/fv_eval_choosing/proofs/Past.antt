@@ -15,7 +15,7 @@ use Rattle.fv_eval_choosing.specs.Shortcuts.{HasNothing, SkipsTo, SkipsBy}
 use Rattle.fv_eval_choosing.specs.inner.Lookup.{HoldsNone}
 use Rattle.fv_rules.specs.headline.Values.{is_of, definition_of, or_else}
 use Rattle.fv_eval_choosing.proofs.Lookups.{another_bound, definitions_say_in}
-use Rattle.fv_eval_scopes.proofs.Outward.{only, passes_fewer, nearer_first, nearer_second}
+use Rattle.fv_eval_scopes.proofs.lemmas.Outward.{only, passes_fewer, nearer_first, nearer_second}
 
 -- a scope that has none of the keys of a name has nothing of it
 nothing_by : (p : Parsed) (name env : ℕ) (Keys : ℕ → Type 0) (s : code_scope.Scope) → Keys name → HoldsNone p name Keys → (Keys (key_of s) → ⊥)

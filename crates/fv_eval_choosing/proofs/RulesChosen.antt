@@ -17,10 +17,10 @@ use Rattle.fv_eval_scopes.specs.Shows.{World, ShowsValues}
 use Rattle.fv_eval_scopes.specs.Memo.{Remembers, AddsIntegers}
 use Rattle.fv_eval_patterns.specs.Patterns.{with_diagrams, ShowsMatched}
 use Rattle.fv_eval_choosing.specs.Chosen.{ShowsChoice, IsRuleAt, Chooses}
-use Rattle.fv_eval_scopes.proofs.Grown.{values_grow}
-use Rattle.fv_eval_scopes.proofs.Added.{adds_none, adds_on}
-use Rattle.fv_eval_patterns.proofs.Matched.{adds_grow}
-use Rattle.fv_eval_patterns.proofs.InOrder.{said_yes, said_no, AllAnswer}
+use Rattle.fv_eval_scopes.proofs.lemmas.Grown.{values_grow}
+use Rattle.fv_eval_scopes.proofs.lemmas.Added.{adds_none, adds_on}
+use Rattle.fv_eval_patterns.proofs.lemmas.Matched.{adds_grow}
+use Rattle.fv_eval_patterns.proofs.lemmas.InOrder.{said_yes, said_no, AllAnswer}
 use Rattle.std.proofs.lemmas.List.{get_or_default}
 use Rattle.fv_eval_patterns.specs.Bits.{has}
 use Rattle.fv_eval_choosing.specs.Leaving.{IsOut, Leaves}

@@ -8,7 +8,7 @@ ghost use Rattle.fv_rules.specs.headline.Matching.{chosen};
 ghost use Rattle.fv_rules.specs.headline.Rules.{width};
 ghost use Rattle.fv_eval_scopes.specs.Shows.{World, IsInside, ShowsValues, case_in, rules_in};
 ghost use Rattle.fv_eval_scopes.specs.Memo.{Remembers, AddsIntegers};
-ghost use Rattle.fv_eval_patterns.specs.Patterns.{IsSound, with_diagrams};
+ghost use Rattle.fv_eval_patterns.specs.Patterns.{IsValid, with_diagrams};
 ghost use Rattle.fv_eval_patterns.specs.Trials.{Recalls};
 ghost use Rattle.fv_eval_choosing.specs.Chosen.{ShowsChoice, IsRuleAt, IsFirstRule, Chooses, nodes_of};
 ghost use Rattle.fv_eval_choosing.specs.Leaving.{Leaves};
@@ -170,7 +170,7 @@ impl Definitions<'_> {
         arguments: &[Value],
     ) -> Result<Option<(TreeId, Bindings)>, AllocError>
         requires inside { IsInside self.now ruled }
-        requires sound { All (IsSound diagrams.old) arguments.now }
+        requires valid { All (IsValid diagrams.old) arguments.now }
         requires known { Remembers diagrams.old numbers.old }
         requires recalls { Recalls self.now diagrams.old trials.old }
         ensures adds { AddsIntegers diagrams.old diagrams.new }
@@ -205,7 +205,7 @@ fn first_match(
     requires inside { All (λ id. id < size_of subjects.now.tree.now) (nodes_of rules) }
     requires left { Leaves (map (λ id. rule_of (tree_in subjects.now.tree.now id)) (nodes_of rules)) subjects.now.values.now
         diagrams.old left.now }
-    requires sound { All (IsSound diagrams.old) subjects.now.values.now }
+    requires valid { All (IsValid diagrams.old) subjects.now.values.now }
     requires known { Remembers diagrams.old numbers.old }
     requires recalls { Recalls subjects.now.tree.now diagrams.old trials.old }
     ensures adds { AddsIntegers diagrams.old diagrams.new }

@@ -4,7 +4,7 @@ ghost use Rattle.std.specs.Prelude.{ℕ, ◌≡◌, ◌<◌, ◌≤◌, List, Al
 ghost use Rattle.fv_parse.specs.Trees.{size_of, tree_in};
 ghost use Rattle.fv_rules.specs.headline.Values.{Rule, rule_of};
 ghost use Rattle.fv_eval_scopes.specs.Memo.{Remembers};
-ghost use Rattle.fv_eval_patterns.specs.Patterns.{IsSound};
+ghost use Rattle.fv_eval_patterns.specs.Patterns.{IsValid};
 ghost use Rattle.fv_eval_choosing.specs.Chosen.{nodes_of};
 ghost use Rattle.fv_eval_choosing.specs.Leaving.{IsIndex, IsOut, Knows, Leaves};
 
@@ -112,7 +112,7 @@ impl RuleIndex {
         diagrams: &Diagrams,
         numbers: &mut Numbers,
     ) -> Result<Bits, AllocError>
-        requires sound { All (IsSound diagrams.now) subjects.now.values.now }
+        requires valid { All (IsValid diagrams.now) subjects.now.values.now }
         requires known { Remembers diagrams.now numbers.old }
         ensures known { Remembers diagrams.now numbers.new }
         ensures left { IfOk result (λ b. (rules : List Rule) → IsIndex rules self.now
@@ -133,7 +133,7 @@ pub(crate) fn left_by(
     diagrams: &Diagrams,
     numbers: &mut Numbers,
 ) -> Result<Option<Bits>, AllocError>
-    requires sound { All (IsSound diagrams.now) subjects.now.values.now }
+    requires valid { All (IsValid diagrams.now) subjects.now.values.now }
     requires known { Remembers diagrams.now numbers.old }
     ensures known { Remembers diagrams.now numbers.new }
     ensures left { IfOk result (λ o. (rules : List Rule) → IfSome index.entry (λ x. IsIndex rules x.now)

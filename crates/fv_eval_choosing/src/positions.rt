@@ -6,7 +6,7 @@ ghost use Rattle.fv_parse.specs.Trees.{size_of, tree_in};
 ghost use Rattle.fv_rules.specs.headline.Values.{Rule, Value as PureValue, rule_of};
 ghost use Rattle.fv_eval_scopes.specs.Memo.{Remembers};
 ghost use Rattle.fv_eval_scopes.specs.Shows.{World, ShowsValues};
-ghost use Rattle.fv_eval_patterns.specs.Patterns.{IsSound};
+ghost use Rattle.fv_eval_patterns.specs.Patterns.{IsValid};
 ghost use Rattle.fv_eval_choosing.specs.declared.positions.Row.{Row as ARow};
 ghost use Rattle.fv_eval_choosing.specs.Chosen.{nodes_of};
 ghost use Rattle.fv_eval_patterns.specs.Bits.{has};
@@ -128,7 +128,7 @@ impl Position {
         diagrams: &Diagrams,
         numbers: &mut Numbers,
     ) -> Result<Option<u64>, AllocError>
-        requires sound { All (IsSound diagrams.now) subjects.now.values.now }
+        requires valid { All (IsValid diagrams.now) subjects.now.values.now }
         requires known { Remembers diagrams.now numbers.old }
         ensures known { Remembers diagrams.now numbers.new }
         ensures key { IfOk result (λ o. IfSome o (λ k. (w : World) (vs : List PureValue)
@@ -175,7 +175,7 @@ impl Position {
         numbers: &mut Numbers,
         rules: &mut Bits,
     ) -> Result<(), AllocError>
-        requires sound { All (IsSound diagrams.now) subjects.now.values.now }
+        requires valid { All (IsValid diagrams.now) subjects.now.values.now }
         requires known { Remembers diagrams.now numbers.old }
         ensures known { Remembers diagrams.now numbers.new }
         ensures narrows { OnOk result ((all : List Rule) → Knows all self.now

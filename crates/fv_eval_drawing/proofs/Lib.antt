@@ -3,7 +3,7 @@ pub mod Arenas
 pub mod Turns
 pub mod Leaves
 pub mod Operated
-pub mod Gathered
+pub mod lemmas
 pub mod Loops
 pub mod Tabling
 pub mod Fed

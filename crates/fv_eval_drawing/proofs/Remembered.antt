@@ -9,7 +9,7 @@ use Rattle.fv_diagram.specs.declared.node.Node.TheVariants as node
 use Rattle.fv_diagram.specs.headline.Diagram.{Diagram}
 use Rattle.fv_diagram.specs.Composed.{IsComposed}
 use Rattle.fv_diagram.specs.Arena.{Arena, ChildrenBelow, count_of, tree_of, tree_with, with_list, with_node}
-use Rattle.fv_diagram.proofs.Trees.{put_tree, put_tree_keeps}
+use Rattle.fv_diagram.proofs.lemmas.Trees.{put_tree, put_tree_keeps}
 use Rattle.fv_rules.specs.Compositions.{HasComposedParts}
 use Rattle.fv_rules.specs.declared.refusal.EvalRefusal.{EvalRefusal}
 use Rattle.fv_eval_scopes.specs.declared.memo.Known.{Known}
@@ -18,8 +18,8 @@ use Rattle.fv_eval_scopes.specs.declared.value.Value as code_value
 use Rattle.fv_eval_scopes.specs.declared.value.Value.TheVariants as value
 use Rattle.fv_diagram_head.specs.Numbers.{number_of}
 use Rattle.fv_eval_scopes.specs.Memo.{AddsIntegers, IsInteger, IsKnown, Remembers}
-use Rattle.fv_eval_patterns.specs.Patterns.{IsSound}
-use Rattle.fv_eval_scopes.proofs.Added.{adds_keeps, adds_longer}
+use Rattle.fv_eval_patterns.specs.Patterns.{IsValid}
+use Rattle.fv_eval_scopes.proofs.lemmas.Added.{adds_keeps, adds_longer}
 use Rattle.fv_eval_drawing.specs.Makes.{AreComposed, Canvas, Draws, Extends, IsThere}
 
 -- ---- what is remembered
@@ -121,9 +121,9 @@ pub settled_draws : {E : Type 0} (a : Arena) (d : Diagram) (r : Result ℕ E)
 settled_draws a d (Ok i) h k = record { inside = h; is = k }
 settled_draws a d (Err e) h k = tt
 
-one_sound : (a : Arena) (u : code_value.Value) → AreComposed a → IsThere a u → IsSound a u
-one_sound a (value.Diagram i) h k = (k, h i k)
-one_sound a u h k = tt
+one_valid : (a : Arena) (u : code_value.Value) → AreComposed a → IsThere a u → IsValid a u
+one_valid a (value.Diagram i) h k = (k, h i k)
+one_valid a u h k = tt
 
-pub there_sound : (a : Arena) (us : List code_value.Value) → AreComposed a → All (IsThere a) us → All (IsSound a) us
-there_sound a us h k i u l = one_sound a (get_or us i u) h (k i u l)
+pub there_valid : (a : Arena) (us : List code_value.Value) → AreComposed a → All (IsThere a) us → All (IsValid a) us
+there_valid a us h k i u l = one_valid a (get_or us i u) h (k i u l)

@@ -1,6 +1,4 @@
 pub mod BitSets
-pub mod Matched
+pub mod lemmas
 pub mod Surveys
-pub mod LongPatterns
-pub mod InOrder
 pub mod Parametric

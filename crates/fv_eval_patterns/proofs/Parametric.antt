@@ -16,13 +16,13 @@ use Rattle.fv_eval_scopes.specs.Shows.{World, ShowsBindings, ShowsValue}
 use Rattle.fv_eval_scopes.specs.Memo.{AddsIntegers}
 use Rattle.std.proofs.Math.Seq.{drop-append_seam}
 use Rattle.std.specs.Bool.{MatchBool}
-use Rattle.fv_eval_scopes.proofs.Added.{adds_keeps, adds_longer, adds_on}
-use Rattle.fv_eval_patterns.proofs.LongPatterns.{binds_grow}
-use Rattle.fv_eval_scopes.proofs.Grown.{bindings_grow}
+use Rattle.fv_eval_scopes.proofs.lemmas.Added.{adds_keeps, adds_longer, adds_on}
+use Rattle.fv_eval_patterns.proofs.lemmas.LongPatterns.{binds_grow}
+use Rattle.fv_eval_scopes.proofs.lemmas.Grown.{bindings_grow}
 use Rattle.fv_eval_patterns.specs.declared.matching.Pair.{Pair}
 use Rattle.fv_eval_patterns.specs.Patterns.{IsPair, ShowsMatched, with_diagrams}
 use Rattle.fv_eval_patterns.specs.Trials.{AddsBound, AreHalves, Binds, Misses}
-use Rattle.fv_eval_patterns.proofs.Matched.{adds_grow}
+use Rattle.fv_eval_patterns.proofs.lemmas.Matched.{adds_grow}
 
 -- bindings before others
 abbrev pub onto : Option Bindings → Bindings → Option Bindings

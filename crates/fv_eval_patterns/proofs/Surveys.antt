@@ -12,7 +12,7 @@ use Rattle.fv_diagram.specs.Arena.{Arena, count_of, tree_of}
 use Rattle.fv_rules.specs.headline.Values.{Flat}
 use Rattle.fv_rules.specs.headline.Matching.{matched}
 use Rattle.fv_parse.specs.Arena.{trees}
-use Rattle.fv_parse_tree.proofs.Arenas.{length_trees}
+use Rattle.fv_parse_tree.proofs.lemmas.Arenas.{length_trees}
 use Rattle.fv_eval_patterns.specs.Bits.{has}
 use Rattle.fv_eval_patterns.proofs.BitSets.{none_has}
 use Rattle.fv_eval_patterns.specs.declared.shapes.Shape.{Shape}

@@ -22,9 +22,9 @@ use Rattle.fv_eval_scopes.specs.Memo.{Remembers, AddsIntegers}
 use Rattle.fv_eval_scopes.specs.Shows.{World, ShowsBindings}
 
 -- a value that is a diagram is one of the arena, and composed
-abbrev pub IsSound : Arena → code_value.Value → Type 0
-IsSound a (value.Diagram i) = (i < count_of a) × IsComposed (tree_of a i)
-IsSound a u = Unit {0}
+abbrev pub IsValid : Arena → code_value.Value → Type 0
+IsValid a (value.Diagram i) = (i < count_of a) × IsComposed (tree_of a i)
+IsValid a u = Unit {0}
 
 -- a value is no diagram
 abbrev pub IsNoDiagram : code_value.Value → Type 0

@@ -6,7 +6,7 @@ ghost use Rattle.fv_rules.specs.headline.Values.{Value as PureValue};
 ghost use Rattle.fv_rules.specs.headline.Matching.{Bindings as PureBindings, all_matched};
 ghost use Rattle.fv_eval_scopes.specs.Shows.{World, ShowsValues, ShowsBindings};
 ghost use Rattle.fv_eval_scopes.specs.Memo.{Remembers, AddsIntegers};
-ghost use Rattle.fv_eval_patterns.specs.Patterns.{IsSound, with_diagrams, ShowsMatched};
+ghost use Rattle.fv_eval_patterns.specs.Patterns.{IsValid, with_diagrams, ShowsMatched};
 ghost use Rattle.fv_eval_patterns.specs.Trials.{Recalls};
 
 use crate::trials::Trials;
@@ -35,7 +35,7 @@ impl Subjects<'_> {
         found: &mut Vec<Binding>,
     ) -> Result<bool, AllocError>
         requires inside { All (λ id. id < size_of self.now.tree.now) patterns.now }
-        requires sound { All (IsSound diagrams.old) self.now.values.now }
+        requires valid { All (IsValid diagrams.old) self.now.values.now }
         requires known { Remembers diagrams.old numbers.old }
         requires recalls { Recalls self.now.tree.now diagrams.old trials.old }
         ensures adds { AddsIntegers diagrams.old diagrams.new }
@@ -64,7 +64,7 @@ impl Subjects<'_> {
         found: &mut Vec<Binding>,
     ) -> Result<bool, AllocError>
         requires inside { All (λ id. id < size_of self.now.tree.now) patterns.now }
-        requires sound { All (IsSound diagrams.old) self.now.values.now }
+        requires valid { All (IsValid diagrams.old) self.now.values.now }
         requires known { Remembers diagrams.old numbers.old }
         requires recalls { Recalls self.now.tree.now diagrams.old trials.old }
         ensures adds { AddsIntegers diagrams.old diagrams.new }

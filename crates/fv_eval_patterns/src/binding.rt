@@ -7,7 +7,7 @@ ghost use Rattle.fv_rules.specs.headline.Values.{Value as PureValue};
 ghost use Rattle.fv_rules.specs.headline.Matching.{Bindings as PureBindings, matched};
 ghost use Rattle.fv_eval_scopes.specs.Shows.{World, ShowsValue, ShowsBindings};
 ghost use Rattle.fv_eval_scopes.specs.Memo.{Remembers, AddsIntegers};
-ghost use Rattle.fv_eval_patterns.specs.Patterns.{IsPair, IsSound, ShowsMatched, with_diagrams};
+ghost use Rattle.fv_eval_patterns.specs.Patterns.{IsPair, IsValid, ShowsMatched, with_diagrams};
 ghost use Rattle.fv_eval_patterns.specs.Trials.{AddsBound, AreHalves, Binds, Misses, Recalls};
 
 use crate::all_patterns::Subjects;
@@ -38,7 +38,7 @@ impl Subjects<'_> {
         found: &mut Vec<Binding>,
     ) -> Result<bool, AllocError>
         requires inside { pattern < size_of self.now.tree.now }
-        requires value { IsSound diagrams.old value.now }
+        requires value { IsValid diagrams.old value.now }
         requires known { Remembers diagrams.old numbers.old }
         requires recalls { Recalls self.now.tree.now diagrams.old trials.old }
         ensures adds { AddsIntegers diagrams.old diagrams.new }

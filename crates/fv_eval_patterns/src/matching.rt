@@ -9,7 +9,7 @@ ghost use Rattle.fv_rules.specs.Numbers.{number_of};
 ghost use Rattle.fv_rules.specs.headline.Matching.{Bindings as PureBindings, matched, is_number, parts_of, parts_without};
 ghost use Rattle.fv_eval_scopes.specs.Shows.{World, ShowsValue, ShowsBindings};
 ghost use Rattle.fv_eval_scopes.specs.Memo.{Remembers, AddsIntegers};
-ghost use Rattle.fv_eval_patterns.specs.Patterns.{IsSound, IsNoDiagram, with_diagrams, ShowsMatched, ShowsMatch, IsPair};
+ghost use Rattle.fv_eval_patterns.specs.Patterns.{IsValid, IsNoDiagram, with_diagrams, ShowsMatched, ShowsMatch, IsPair};
 ghost use Rattle.fv_eval_patterns.specs.Patterns.{BindsName, Leaves, Refuses, are_parts, both_parts, ArePartsOf};
 
 use fv_diagram::{DiagramId, Diagrams, Node};
@@ -68,7 +68,7 @@ pub fn matches(
     argument: &Value,
 ) -> Result<Option<Bindings>, AllocError>
     requires inside { pattern < size_of tree.now }
-    requires argument { IsSound diagrams.old argument.now }
+    requires argument { IsValid diagrams.old argument.now }
     ensures adds { AddsIntegers diagrams.old diagrams.new }
     ensures matched { IfOk result (λ o. (w : World) (v : PureValue)
         → w.tree ≡ tree.now → w.diagrams ≡ diagrams.old → ShowsValue w argument.now v
@@ -103,7 +103,7 @@ pub(crate) fn matches_in(
     found: &mut Vec<Binding>,
 ) -> Result<bool, AllocError>
     requires inside { pattern < size_of tree.now }
-    requires argument { IsSound diagrams.old argument.now }
+    requires argument { IsValid diagrams.old argument.now }
     requires known { Remembers diagrams.old numbers.old }
     ensures adds { AddsIntegers diagrams.old diagrams.new }
     ensures known { Remembers diagrams.new numbers.new }

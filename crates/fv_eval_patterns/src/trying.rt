@@ -7,7 +7,7 @@ ghost use Rattle.fv_rules.specs.headline.Values.{Value as PureValue};
 ghost use Rattle.fv_rules.specs.headline.Matching.{Bindings as PureBindings, all_matched};
 ghost use Rattle.fv_eval_scopes.specs.Shows.{World, ShowsValues};
 ghost use Rattle.fv_eval_scopes.specs.Memo.{Remembers};
-ghost use Rattle.fv_eval_patterns.specs.Patterns.{IsSound, IsPair, Refuses};
+ghost use Rattle.fv_eval_patterns.specs.Patterns.{IsValid, IsPair, Refuses};
 ghost use Rattle.fv_eval_patterns.specs.Trials.{Says, Recalls, AllMiss, Splits};
 
 use crate::all_patterns::Subjects;
@@ -67,7 +67,7 @@ impl Subjects<'_> {
         trials: &mut Trials,
     ) -> Result<bool, AllocError>
         requires inside { All (λ id. id < size_of self.now.tree.now) patterns.now }
-        requires sound { All (IsSound diagrams.now) self.now.values.now }
+        requires valid { All (IsValid diagrams.now) self.now.values.now }
         requires known { Remembers diagrams.now numbers.old }
         requires recalls { Recalls self.now.tree.now diagrams.now trials.old }
         ensures known { Remembers diagrams.now numbers.new }

@@ -6,7 +6,7 @@ use Rattle.std.specs.Prelude.{slice_get}
 use Rattle.std.proofs.lemmas.List.{length_push}
 use Rattle.fv_eval_scopes.specs.declared.tries.Fork.{Fork}
 use Rattle.fv_eval_scopes.specs.Tries.{child_of, child, found, AreThere, IsGrown, IsWith}
-use Rattle.fv_eval_scopes.proofs.Grown.{last_place}
+use Rattle.fv_eval_scopes.proofs.lemmas.Grown.{last_place}
 
 -- ---- nodes stay where they are
 

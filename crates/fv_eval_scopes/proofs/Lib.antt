@@ -1,5 +1,3 @@
-pub mod Grown
+pub mod lemmas
 pub mod Forks
-pub mod Outward
 pub mod Scoped
-pub mod Added

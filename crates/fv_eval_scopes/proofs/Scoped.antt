@@ -12,7 +12,7 @@ use Rattle.fv_eval_scopes.specs.Environments.{Environments, with_scope}
 use Rattle.fv_rules.specs.headline.Values.{Value, Env, Taken, Nothing, And, in_order}
 use Rattle.fv_rules.specs.headline.Matching.{Bindings, bound_in}
 use Rattle.fv_eval_scopes.specs.Shows.{World, Grows, IsNamed, ShowsValue, ShowsValues, ShowsEnv, ShowsTaken, ShowsBindings}
-use Rattle.fv_eval_scopes.proofs.Grown.{scope_opens, grows_on, named_grows, value_grows, bound_shows}
+use Rattle.fv_eval_scopes.proofs.lemmas.Grown.{scope_opens, grows_on, named_grows, value_grows, bound_shows}
 
 -- ---- arguments
 

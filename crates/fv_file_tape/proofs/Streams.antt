@@ -11,7 +11,7 @@ use Rattle.fv_base.specs.headline.Lists.{IsPrefixOf}
 use Rattle.fv_outside.specs.headline.Requests.{to_write}
 use Rattle.fv_outside.specs.headline.Desk.{DeskState, GoesOn, HasFault, KeepsFaults, IsUnfailing}
 use Rattle.fv_outside.specs.Desk.{KeepsFaultsBut, KeepsLeft, KeepsWrittenBut, KeepsBytes, Appends, Takes}
-use Rattle.fv_outside.proofs.States.{told_before, goes_on_then, fault_earlier, unfailing_later}
+use Rattle.fv_outside.proofs.lemmas.States.{told_before, goes_on_then, fault_earlier, unfailing_later}
 use Rattle.fv_pcm.specs.headline.Coded.{sample_bytes}
 use Rattle.fv_pcm.specs.Coded.{samples_in}
 use Rattle.fv_pcm.specs.headline.Sizes.{frame_size, stated_frames, whole_bytes}
@@ -23,7 +23,7 @@ use Rattle.fv_file_tape.specs.Tapes.{Files, channels_of, layout_of, head_of, fro
 use Rattle.fv_file_tape.specs.declared.samples.InputSamples.{InputSamples}
 use Rattle.fv_file_tape.specs.declared.file_tape.FileTape.{FileTape}
 use Rattle.fv_file_tape.specs.declared.file_tape.Stop.{Stop}
-use Rattle.fv_file_tape.proofs.Heard.{taken_more, taken_next, taken_nothing, rows_fit, no_samples}
+use Rattle.fv_file_tape.proofs.lemmas.Heard.{taken_more, taken_next, taken_nothing, rows_fit, no_samples}
 
 -- reading from the input leaves the rest as it was
 streams_heard : {name : List ℕ} {a b c : DeskState} {bytes : List ℕ} → Streams name a b → Takes Input bytes b c → Streams name a c

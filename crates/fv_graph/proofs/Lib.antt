@@ -1,8 +1,4 @@
-pub mod Counts
-pub mod Graphs
-pub mod ReadsLemmas
+pub mod lemmas
 pub mod Rising
 pub mod ListsLemmas
 pub mod Made
-pub mod Ranges
-pub mod Grouping

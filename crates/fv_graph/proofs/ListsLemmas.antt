@@ -2,7 +2,7 @@
 use Rattle.std.proofs.Common.{◌≡◌, ℕ, zero, suc, ◌+◌, ◌*◌, ◌/◌, ◌<◌, ◌≤◌, List, [], ◌∷◌, ◌++◌, length, get_or, refl, ap, ◌∙◌, arith}
 use Rattle.std.specs.Global.{Vec}
 use Rattle.fv_graph.specs.inner.Lists.{AreLists}
-use Rattle.fv_graph.proofs.Graphs.{further, low_quotient}
+use Rattle.fv_graph.proofs.lemmas.Graphs.{further, low_quotient}
 
 one_more : (E : ℕ → List ℕ) (xs : List (Vec ℕ)) (v : Vec ℕ) (n : ℕ) → length xs ≡ n → ((t : ℕ) (d : Vec ℕ) → t < n → (get_or xs t d).items ≡ E t)
     → v.items ≡ E n → (t : ℕ) (d : Vec ℕ) → t < n + 1 → (get_or (xs ++ v ∷ []) t d).items ≡ E t

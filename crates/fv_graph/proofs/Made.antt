@@ -8,7 +8,7 @@ use Rattle.fv_outside.specs.declared.tasks.Reads.{Reads}
 use Rattle.fv_graph.specs.Words.{passing}
 use Rattle.fv_graph.specs.Graph.{no_reads, pair_at, stride, loop_of, vector_of, pair_edges_into, pair_edges_out}
 use Rattle.fv_graph.specs.inner.Lists.{AreLists, AreInward, AreOutward, Grouped, group_of, edges_at}
-use Rattle.fv_graph.proofs.ReadsLemmas.{get_passing}
+use Rattle.fv_graph.proofs.lemmas.ReadsLemmas.{get_passing}
 
 group_items : (groups : List (Vec ℕ)) (j : ℕ) (xs : List ℕ) → j < length groups → ((d : Vec ℕ) → (get_or groups j d).items ≡ xs) → group_of groups j ≡ xs
 group_items [] j xs l h = absurd (omega arith)

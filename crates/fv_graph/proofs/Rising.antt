@@ -10,8 +10,8 @@ use native.Mathlib.Decide.{ℕ_discrete}
 use Rattle.fv_outside.specs.headline.Tasks.{bit, total, reads_loop}
 use Rattle.fv_outside.specs.declared.tasks.Reads.{Reads}
 use Rattle.fv_graph.specs.Graph.{no_reads, is_before, ArePairs, IsGraph}
-use Rattle.fv_graph.proofs.Counts.{both_true, both_of, eq_of, either_left, either_right, total_at, bools_agree}
-use Rattle.fv_graph.proofs.ReadsLemmas.{IsAt, loop_at, loop_place}
+use Rattle.fv_graph.proofs.lemmas.Counts.{both_true, both_of, eq_of, either_left, either_right, total_at, bools_agree}
+use Rattle.fv_graph.proofs.lemmas.ReadsLemmas.{IsAt, loop_at, loop_place}
 
 -- how often a pair stands in a list
 abbrev pub copies : ℕ → ℕ → List Reads → ℕ

@@ -4,19 +4,19 @@ use Rattle.std.specs.Vec.{vec_capacity}
 use Rattle.fv_graph.specs.Tasks.{Tasks}
 use Rattle.fv_graph.specs.TasksBeside.{task_count}
 use Rattle.fv_graph.specs.Graph.{IsGraph, edges_of, net_of, reader_of}
-use Rattle.fv_graph.proofs.Graphs.{is_net}
+use Rattle.fv_graph.proofs.lemmas.Graphs.{is_net}
 use Rattle.fv_graph_core.specs.Core.{Now, is_legal, after, count_of, deque_of, owes_of, joined, opening, numbers, ready, dealt}
 use Rattle.fv_graph.specs.Net.{need_count}
 use Rattle.fv_graph_core.specs.Ends.{without}
-use Rattle.fv_graph_core.specs.Sound.{IsSound}
+use Rattle.fv_graph_core.specs.Valid.{IsValid}
 use Rattle.fv_graph_core.specs.Kept.{rooms_of, owed_rooms}
 use Rattle.fv_graph_core.specs.Running.{Running}
 use Rattle.fv_graph_core.specs.Stored.{now_of, running_of, IsStored}
 use Rattle.fv_graph_core.specs.declared.event.Event.{Event}
 use Rattle.fv_graph_core.specs.declared.event.Event.TheVariants.{Arrive}
 use Rattle.fv_graph_core.specs.declared.running.Core.TheInside.{Inside}
-use Rattle.fv_graph_core.proofs.Stepping.{sound_after, sound_now}
-use Rattle.fv_graph_core.proofs.Opens.{opens}
+use Rattle.fv_graph_core.proofs.Stepping.{valid_after, valid_now}
+use Rattle.fv_graph_core.proofs.lemmas.Opens.{opens}
 
 -- the tasks, the workers and the room are the same
 pub record SameRoom (c d : Inside) : Type 0 where
@@ -39,12 +39,12 @@ legal_in r q e same h = subst (λ (x : Running). is_legal (net_of x.tasks) x.now
 pub stored_after : (c d : Inside) (e : Event) → IsStored c → is_legal (net_of c.seen.value.tasks) (now_of c) e ≡ true → SameRoom c d
     → now_of d ≡ after (net_of c.seen.value.tasks) (now_of c) e → IsStored d
 stored_after c d e i legal same is =
-    let s = sound_after (net_of c.seen.value.tasks) (is_net c.seen.value.tasks i.graph) c.workers (now_of c) e i.sound legal in
+    let s = valid_after (net_of c.seen.value.tasks) (is_net c.seen.value.tasks i.graph) c.workers (now_of c) e i.valid legal in
     record {
       graph = subst (λ (g : Tasks). IsGraph g) (sym same.tasks) i.graph;
-      sound = subst (λ (g : Tasks). IsSound (net_of g) d.workers (now_of d)) (sym same.tasks)
-          (subst (λ (n : Now). IsSound (net_of c.seen.value.tasks) d.workers n) (sym is)
-          (subst (λ w. IsSound (net_of c.seen.value.tasks) w (after (net_of c.seen.value.tasks) (now_of c) e)) (sym same.workers) s));
+      valid = subst (λ (g : Tasks). IsValid (net_of g) d.workers (now_of d)) (sym same.tasks)
+          (subst (λ (n : Now). IsValid (net_of c.seen.value.tasks) d.workers n) (sym is)
+          (subst (λ w. IsValid (net_of c.seen.value.tasks) w (after (net_of c.seen.value.tasks) (now_of c) e)) (sym same.workers) s));
       some_worker = subst (λ w. 0 < w) (sym same.workers) i.some_worker;
       tasks_fit = let f = i.tasks_fit in let a = ap task_count same.tasks in let b = same.room_tasks in omega arith;
       edges_fit = let f = i.edges_fit in let a = ap edges_of same.tasks in let b = same.room_edges in omega arith;
@@ -89,9 +89,9 @@ pub record Begins (d : Inside) (g : Tasks) : Type 0 where
 pub stored_open : (d : Inside) (g : Tasks) → Begins d g → IsStored d
 stored_open d g b = record {
   graph = subst (λ (x : Tasks). IsGraph x) (sym b.seen) b.graph;
-  sound = subst (λ (x : Tasks). IsSound (net_of x) d.workers (now_of d)) (sym b.seen)
-      (subst (λ (s : Now). IsSound (net_of g) d.workers s) (sym b.state)
-      (sound_now (net_of g) d.workers (λ _. 0) (λ _. 0) 0 (opening (net_of g) d.workers) (opens (net_of g) d.workers b.some)));
+  valid = subst (λ (x : Tasks). IsValid (net_of x) d.workers (now_of d)) (sym b.seen)
+      (subst (λ (s : Now). IsValid (net_of g) d.workers s) (sym b.state)
+      (valid_now (net_of g) d.workers (λ _. 0) (λ _. 0) 0 (opening (net_of g) d.workers) (opens (net_of g) d.workers b.some)));
   some_worker = b.some;
   tasks_fit = let q = ap task_count b.seen in let t = b.tasks in omega arith;
   edges_fit = let q = ap edges_of b.seen in let e = b.edges in omega arith;

@@ -11,14 +11,14 @@ use Rattle.fv_graph_core.specs.declared.event.Event.{Event}
 use Rattle.fv_graph_core.specs.declared.event.Event.TheVariants.{Take, Steal, Finish, Arrive, Leave}
 use Rattle.fv_graph_core.specs.Core.{Now, is_run, deque_of, run_of, owes_of, is_done, count_of, is_free, is_legal, after, replayed, opening, takes, is_take}
 use Rattle.fv_graph_core.specs.Law.{AllLeft, CoreLaw}
-use Rattle.fv_graph.proofs.Counts.{bit_le, bit_same, bit_one, bit_true, bit_false, bit_left, total_at, both_true, total_zero, full, full_total}
-use Rattle.fv_graph_core.proofs.EndsLemmas.{times_back, times_front}
-use Rattle.fv_graph_core.specs.Sound.{Sound, runs_it, runs_some}
-use Rattle.fv_graph_core.proofs.Sound.{free_is, waits, most, taking, finishing, arriving, leaving}
-use Rattle.fv_graph_core.proofs.Opens.{opens, get_out}
+use Rattle.fv_graph.proofs.lemmas.Counts.{bit_le, bit_same, bit_one, bit_true, bit_false, bit_left, total_at, both_true, total_zero, full, full_total}
+use Rattle.fv_graph_core.proofs.lemmas.EndsLemmas.{times_back, times_front}
+use Rattle.fv_graph_core.specs.Valid.{Valid, runs_it, runs_some}
+use Rattle.fv_graph_core.proofs.Valid.{free_is, waits, most, taking, finishing, arriving, leaving}
+use Rattle.fv_graph_core.proofs.lemmas.Opens.{opens, get_out}
 
 pub retold : (n : Net) (workers : ℕ) (arrived took new : ℕ → ℕ) (amount more : ℕ) (s : Now) → ((t : ℕ) → new t ≡ took t) → more ≡ amount
-    → Sound n workers arrived took amount s → Sound n workers arrived new more s
+    → Valid n workers arrived took amount s → Valid n workers arrived new more s
 retold n workers arrived took new amount more s e q i = record {
   counts_long = i.counts_long;
   done_long = i.done_long;
@@ -49,10 +49,10 @@ some_of (suc k) e = omega arith
 
 -- what the invariant becomes at one event
 abbrev pub Next : Net → ℕ → (ℕ → ℕ) → ℕ → Event → Now → Type 0
-Next n workers took amount e z = (arrived : ℕ → ℕ) × Sound n workers arrived (λ t. took t + takes t e) (amount + is_take e) z
+Next n workers took amount e z = (arrived : ℕ → ℕ) × Valid n workers arrived (λ t. took t + takes t e) (amount + is_take e) z
 
 module _ (n : Net) (net : IsNet n) (workers : ℕ) where
-  pub steps : (arrived took : ℕ → ℕ) (amount : ℕ) (s : Now) (e : Event) → Sound n workers arrived took amount s → is_legal n s e ≡ true
+  pub steps : (arrived took : ℕ → ℕ) (amount : ℕ) (s : Now) (e : Event) → Valid n workers arrived took amount s → is_legal n s e ≡ true
       → Next n workers took amount e (after n s e)
   steps arrived took amount s (Take w t) i legal =
       let a = both_true (ltb w (length s.runs) && is_free s w) (back_is (deque_of s w) t) legal in
@@ -99,11 +99,11 @@ module _ (n : Net) (net : IsNet n) (workers : ℕ) where
   chosen true o z e = (refl, e)
   chosen false o z e = absurd (cc)
 
-  pub replays : (es : List Event) (arrived took : ℕ → ℕ) (amount : ℕ) (s z : Now) → Sound n workers arrived took amount s → replayed n s es ≡ Some z
-      → (last : ℕ → ℕ) × Sound n workers last (λ t. took t + total (takes t) es) (amount + total is_take es) z
+  pub replays : (es : List Event) (arrived took : ℕ → ℕ) (amount : ℕ) (s z : Now) → Valid n workers arrived took amount s → replayed n s es ≡ Some z
+      → (last : ℕ → ℕ) × Valid n workers last (λ t. took t + total (takes t) es) (amount + total is_take es) z
   replays [] arrived took amount s z i e = let same : s ≡ z = cc in (
     arrived,
-    subst (λ (x : Now). Sound n workers arrived (λ t. took t + 0) (amount + 0) x) same
+    subst (λ (x : Now). Valid n workers arrived (λ t. took t + 0) (amount + 0) x) same
         (retold n workers arrived took (λ x. took x + 0) amount (amount + 0) s (λ x. omega arith) (omega arith) i),
   )
   replays (x ∷ xs) arrived took amount s z i e =
@@ -124,7 +124,7 @@ module _ (n : Net) (net : IsNet n) (workers : ℕ) where
       (r.0, subst (λ b. cond b (replayed n (after n s x) xs) None ≡ Some r.0) (sym c.0) r.1, r.2)
 
   -- where the count is 0, all that the task reads is done
-  pub ready_reads : (arrived took : ℕ → ℕ) (amount : ℕ) (s : Now) → Sound n workers arrived took amount s → (t : ℕ) → t < n.tasks → count_of s t ≡ 0
+  pub ready_reads : (arrived took : ℕ → ℕ) (amount : ℕ) (s : Now) → Valid n workers arrived took amount s → (t : ℕ) → t < n.tasks → count_of s t ≡ 0
       → (e : ℕ) → 0 < times e (n.needs t) → is_done s (n.source e) ≡ true
   ready_reads arrived took amount s i t there none e some =
       let c = i.counted t there in
@@ -133,7 +133,7 @@ module _ (n : Net) (net : IsNet n) (workers : ℕ) where
       (both_true (n.is_inner e) (is_done s (n.source e)) (bit_true (n.is_inner e && is_done s (n.source e)) (omega arith))).1
 
   -- a task that is taken has the count 0
-  pub taken_ready : (arrived took : ℕ → ℕ) (amount : ℕ) (s : Now) → Sound n workers arrived took amount s → (e : Event) → is_legal n s e ≡ true
+  pub taken_ready : (arrived took : ℕ → ℕ) (amount : ℕ) (s : Now) → Valid n workers arrived took amount s → (e : Event) → is_legal n s e ≡ true
       → (t : ℕ) → takes t e ≡ 1 → (t < n.tasks) × (count_of s t ≡ 0)
   taken_ready arrived took amount s i (Take w u) legal t is =
       let same = bit_one u t (omega arith) in
@@ -156,7 +156,7 @@ module _ (n : Net) (net : IsNet n) (workers : ℕ) where
   taken_ready arrived took amount s i (Leave w) legal t is = absurd (omega arith)
 
   -- a task that lies in a deque is not done, and nobody runs it
-  lying : (arrived took : ℕ → ℕ) (amount : ℕ) (s : Now) → Sound n workers arrived took amount s → (w t : ℕ) → w < workers → 0 < times t (deque_of s w)
+  lying : (arrived took : ℕ → ℕ) (amount : ℕ) (s : Now) → Valid n workers arrived took amount s → (w t : ℕ) → w < workers → 0 < times t (deque_of s w)
       → (is_done s t ≡ false) × (total (runs_it t) s.runs ≡ 0)
   lying arrived took amount s i w t hw some =
       let k = waits n workers arrived took amount s i w t hw some in
@@ -166,7 +166,7 @@ module _ (n : Net) (net : IsNet n) (workers : ℕ) where
       (bit_false (is_done s t) (omega arith), omega arith)
 
   -- so is one that is taken
-  pub fresh_taken : (arrived took : ℕ → ℕ) (amount : ℕ) (s : Now) → Sound n workers arrived took amount s → (e : Event) → is_legal n s e ≡ true
+  pub fresh_taken : (arrived took : ℕ → ℕ) (amount : ℕ) (s : Now) → Valid n workers arrived took amount s → (e : Event) → is_legal n s e ≡ true
       → (t : ℕ) → takes t e ≡ 1 → (is_done s t ≡ false) × (total (runs_it t) s.runs ≡ 0)
   fresh_taken arrived took amount s i (Take w u) legal t is =
       let same = bit_one u t (omega arith) in
@@ -186,7 +186,7 @@ module _ (n : Net) (net : IsNet n) (workers : ℕ) where
   fresh_taken arrived took amount s i (Arrive w e) legal t is = absurd (omega arith)
   fresh_taken arrived took amount s i (Leave w) legal t is = absurd (omega arith)
 
-  module _ (arrived took : ℕ → ℕ) (amount : ℕ) (z : Now) (i : Sound n workers arrived took amount z) (gone : AllLeft z workers) where
+  module _ (arrived took : ℕ → ℕ) (amount : ℕ) (z : Now) (i : Valid n workers arrived took amount z) (gone : AllLeft z workers) where
     nothing_lies : (t : ℕ) → total (times t) z.deques ≡ 0
     nothing_lies t = total_zero (times t) z.deques [] (λ w h. ap (times t) (i.away w (gone w (omega (arith, i.deques_long)))).0)
 

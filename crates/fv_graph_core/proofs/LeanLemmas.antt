@@ -3,14 +3,14 @@ use Rattle.std.proofs.Common.{◌≡◌, ℕ, ◌+◌, ◌<◌, Bool, true, fals
 use Rattle.std.proofs.Common.{Option, Some, None, refl, ap, ◌∙◌, ltb, lt-ltb, ◌==◌, eq-eqb}
 use Rattle.fv_graph.specs.Tasks.{bit, total}
 use Rattle.fv_graph.specs.Net.{Net, IsNet}
-use Rattle.fv_graph.proofs.Counts.{both_true, both_of, bit_same}
+use Rattle.fv_graph.proofs.lemmas.Counts.{both_true, both_of, bit_same}
 use Rattle.fv_graph_core.specs.Core.{Now, is_run, deque_of, is_free, is_done, count_of, is_legal, after, replayed, opening, takes, is_take}
 use Rattle.fv_graph_core.specs.Lean.{is_taken, lean_takes, is_lean_legal, lean_after, lean_replayed}
 use Rattle.fv_graph_core.specs.Ends.{is_empty, back_is, front_is}
 use Rattle.fv_graph_core.specs.declared.event.Event.{Event}
 use Rattle.fv_graph_core.specs.declared.event.Event.TheVariants.{Take, Steal, Finish, Arrive, Leave}
-use Rattle.fv_graph_core.specs.Sound.{Sound}
-use Rattle.fv_graph_core.proofs.Opens.{opens}
+use Rattle.fv_graph_core.specs.Valid.{Valid}
+use Rattle.fv_graph_core.proofs.lemmas.Opens.{opens}
 use Rattle.fv_graph_core.proofs.Law.{steps, chosen, taken_ready, fresh_taken}
 
 -- the state with other deques
@@ -30,7 +30,7 @@ not_taken false true p q = refl
 not_taken false false p q = absurd (cc)
 
 module _ (n : Net) (net : IsNet n) (workers : ℕ) where
-  module _ (arrived took : ℕ → ℕ) (amount : ℕ) (s : Now) (i : Sound n workers arrived took amount s) (d : List (List ℕ)) where
+  module _ (arrived took : ℕ → ℕ) (amount : ℕ) (s : Now) (i : Valid n workers arrived took amount s) (d : List (List ℕ)) where
     takes_lean : (e : Event) (w t : ℕ) → is_legal n s e ≡ true → takes t e ≡ 1 → ltb w (length s.runs) ≡ true → is_free s w ≡ true
         → lean_takes n (with_deques s d) w t ≡ true
     takes_lean e w t legal one there free =
@@ -57,7 +57,7 @@ module _ (n : Net) (net : IsNet n) (workers : ℕ) where
     legal_lean (Arrive w e) legal = legal
     legal_lean (Leave w) legal = (both_true (ltb w (length s.runs) && is_free s w) (is_empty (deque_of s w)) legal).0
 
-  replays_lean : (es : List Event) (arrived took : ℕ → ℕ) (amount : ℕ) (s z : Now) → Sound n workers arrived took amount s → replayed n s es ≡ Some z
+  replays_lean : (es : List Event) (arrived took : ℕ → ℕ) (amount : ℕ) (s z : Now) → Valid n workers arrived took amount s → replayed n s es ≡ Some z
       → (d : List (List ℕ)) → lean_replayed n (with_deques s d) es ≡ Some (with_deques z d)
   replays_lean [] arrived took amount s z i e d = ap (λ (o : Option Now). lean_kept o d) e
     where

@@ -7,19 +7,19 @@ use Rattle.fv_graph.specs.Tasks.{Tasks}
 use Rattle.fv_graph.specs.TasksBeside.{times, task_count}
 use Rattle.fv_graph.specs.Net.{Net}
 use Rattle.fv_graph.specs.Graph.{IsGraph, net_of}
-use Rattle.fv_graph.proofs.Counts.{both_true, both_of, bit_same, bools_agree}
-use Rattle.fv_graph.proofs.Graphs.{is_net}
-use Rattle.fv_graph.proofs.ReadsLemmas.{source_found}
+use Rattle.fv_graph.proofs.lemmas.Counts.{both_true, both_of, bit_same, bools_agree}
+use Rattle.fv_graph.proofs.lemmas.Graphs.{is_net}
+use Rattle.fv_graph.proofs.lemmas.ReadsLemmas.{source_found}
 use Rattle.fv_graph_core.specs.Ends.{is_empty, back_is, back_of, front_is, front_of}
 use Rattle.fv_graph_core.specs.Core.{Now, is_run, deque_of, run_of, owes_of, is_done, is_free, is_legal, after, takes}
 use Rattle.fv_graph_core.specs.Ready.{TakesReady, FindsReady}
 use Rattle.fv_graph_core.specs.Law.{AllLeft}
 use Rattle.fv_graph_core.specs.declared.event.Event.{Event}
 use Rattle.fv_graph_core.specs.declared.event.Event.TheVariants.{Take, Steal, Finish, Arrive, Leave}
-use Rattle.fv_graph_core.specs.Sound.{IsSound, arrived_of, took_of, amount_of}
+use Rattle.fv_graph_core.specs.Valid.{IsValid, arrived_of, took_of, amount_of}
 use Rattle.fv_graph_core.specs.Running.{Running, IsRunning}
-use Rattle.fv_graph_core.proofs.Opens.{get_out}
-use Rattle.fv_graph_core.proofs.Stepping.{sound_after}
+use Rattle.fv_graph_core.proofs.lemmas.Opens.{get_out}
+use Rattle.fv_graph_core.proofs.Stepping.{valid_after}
 use Rattle.fv_graph_core.proofs.Law.{taken_ready, fresh_taken, ready_reads, all_are_done}
 
 back_named : (xs : List ℕ) (t : ℕ) → is_run t (back_of xs) ≡ back_is xs t
@@ -46,7 +46,7 @@ none_from None false h = absurd (true≢false (sym h))
 none_from (Some x) true h = absurd (true≢false h)
 none_from (Some x) false h = refl
 
-module _ (n : Net) (workers : ℕ) (s : Now) (i : IsSound n workers s) where
+module _ (n : Net) (workers : ℕ) (s : Now) (i : IsValid n workers s) where
   is_there : (w : ℕ) → w < workers → ltb w (length s.runs) ≡ true
   is_there w h = lt-ltb w (length s.runs) (let l = i.runs_long in omega arith)
 
@@ -107,7 +107,7 @@ module _ (n : Net) (workers : ℕ) (s : Now) (i : IsSound n workers s) where
       both_of (is_free s w) (is_empty (deque_of s w)) (both_true (ltb w (length s.runs)) (is_free s w) a.0).1 a.1)
 
 -- what a task that is taken finds
-module _ (g : Tasks) (ig : IsGraph g) (workers : ℕ) (s : Now) (i : IsSound (net_of g) workers s) where
+module _ (g : Tasks) (ig : IsGraph g) (workers : ℕ) (s : Now) (i : IsValid (net_of g) workers s) where
   takes_ready : (e : Event) (t : ℕ) → is_legal (net_of g) s e ≡ true → takes t e ≡ 1 → TakesReady g s t
   takes_ready e t legal one =
       let n = net_of g in
@@ -132,10 +132,10 @@ module _ (g : Tasks) (ig : IsGraph g) (workers : ℕ) (s : Now) (i : IsSound (ne
 -- of a core as contracts see it
 pub after_running : (r : Running) (e : Event) → IsRunning r → is_legal (net_of r.tasks) r.now e ≡ true
     → IsRunning (record r { now = after (net_of r.tasks) r.now e })
-after_running r e i legal = record { graph = i.graph; sound = sound_after (net_of r.tasks) (is_net r.tasks i.graph) r.workers r.now e i.sound legal }
+after_running r e i legal = record { graph = i.graph; valid = valid_after (net_of r.tasks) (is_net r.tasks i.graph) r.workers r.now e i.valid legal }
 
 pub running_ready : (r : Running) (e : Event) → IsRunning r → is_legal (net_of r.tasks) r.now e ≡ true → FindsReady r.tasks r.now e
-running_ready r e i legal = finds_ready r.tasks i.graph r.workers r.now i.sound e legal
+running_ready r e i legal = finds_ready r.tasks i.graph r.workers r.now i.valid e legal
 
 pub running_done : (r : Running) → IsRunning r → AllLeft r.now r.workers → (t : ℕ) → t < task_count r.tasks → is_done r.now t ≡ true
-running_done r i gone t h = all_done r.tasks i.graph r.workers r.now i.sound gone t h
+running_done r i gone t h = all_done r.tasks i.graph r.workers r.now i.valid gone t h

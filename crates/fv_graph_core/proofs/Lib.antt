@@ -1,13 +1,9 @@
-pub mod EndsLemmas
-pub mod Sound
-pub mod Opens
+pub mod lemmas
+pub mod Valid
 pub mod Law
 pub mod Stepping
-pub mod Few
-pub mod Places
 pub mod Room
 pub mod Keeps
 pub mod Legal
 pub mod LeanLemmas
-pub mod Dealing
 pub mod Replaying

@@ -1,4 +1,4 @@
--- What a legal event finds in a sound state: its numbers are in range, and there is room for what it adds.
+-- What a legal event finds in a valid state: its numbers are in range, and there is room for what it adds.
 use Rattle.std.proofs.Common.{◌≡◌, ℕ, ◌+◌, ◌<◌, ◌≤◌, true, ◌&&◌, ◌||◌, not, [], ◌++◌, length, get_or, refl, ap, ◌∙◌}
 use Rattle.std.proofs.Common.{subst, arith, ltb, ltb-true, ◌==◌, length-append, get_or-set_same}
 use mathlib.Core.Logic.{dite}
@@ -8,24 +8,24 @@ use Rattle.fv_graph.specs.TasksBeside.{times, task_count}
 use Rattle.fv_graph.specs.Net.{Net, IsNet}
 use Rattle.fv_graph.specs.Graph.{edges_of, net_of, reader_of, feeds_of}
 use Rattle.fv_graph.specs.Wires.{wires_of}
-use Rattle.fv_graph.proofs.Counts.{bit_le, bit_same, bit_left, both_true, bit_true, total_at, spare, either_left}
-use Rattle.fv_graph.proofs.Graphs.{is_wires, is_net}
+use Rattle.fv_graph.proofs.lemmas.Counts.{bit_le, bit_same, bit_left, both_true, bit_true, total_at, spare, either_left}
+use Rattle.fv_graph.proofs.lemmas.Graphs.{is_wires, is_net}
 use Rattle.fv_graph_core.specs.Core.{Now, is_run, deque_of, run_of, owes_of, is_done, count_of, is_legal, after}
 use Rattle.fv_graph_core.specs.declared.event.Event.TheVariants.{Finish, Arrive}
-use Rattle.fv_graph_core.specs.Sound.{IsSound, arrived_of, took_of, amount_of}
+use Rattle.fv_graph_core.specs.Valid.{IsValid, arrived_of, took_of, amount_of}
 use Rattle.std.specs.Vec.{vec_len}
 use Rattle.fv_graph_core.specs.Kept.{rooms_of, owed_rooms}
 use Rattle.fv_graph_core.specs.Running.{Running}
 use Rattle.fv_graph_core.specs.Stored.{now_of, running_of, IsStored}
 use Rattle.fv_graph_core.specs.declared.running.Core.TheInside.{Inside}
 use Rattle.fv_graph_core.proofs.Keeps.{legal_in}
-use Rattle.fv_graph_core.proofs.Sound.{owed, most, ran}
+use Rattle.fv_graph_core.proofs.Valid.{owed, most, ran}
 use Rattle.fv_graph_core.proofs.Law.{is_run_of, some_of}
-use Rattle.fv_graph_core.proofs.Stepping.{sound_after}
-use Rattle.fv_graph_core.proofs.Few.{few, deque_room}
+use Rattle.fv_graph_core.proofs.Stepping.{valid_after}
+use Rattle.fv_graph_core.proofs.lemmas.Few.{few, deque_room}
 
 -- the lists of what is owed hold inner edges, each once
-owed_few : (n : Net) (workers edges : ℕ) (s : Now) → IsSound n workers s → ((e : ℕ) → n.is_inner e ≡ true → e < edges) → (w : ℕ) → w < workers
+owed_few : (n : Net) (workers edges : ℕ) (s : Now) → IsValid n workers s → ((e : ℕ) → n.is_inner e ≡ true → e < edges) → (w : ℕ) → w < workers
     → length (owes_of s w) ≤ edges
 owed_few n workers edges s i low w h =
     let there : w < length s.owes = let l = i.owes_long in omega arith in
@@ -67,7 +67,7 @@ module _ {c : Inside} {r : Running} {g : Tasks} (i : IsStored c) (view : running
 
   pub arrives : (w e : ℕ) → is_legal (net_of r.tasks) r.now (Arrive w e) ≡ true → Arrives c g w e
   arrives w e legal =
-      let n = net_of c.seen.value.tasks in let s = now_of c in let h = i.sound in
+      let n = net_of c.seen.value.tasks in let s = now_of c in let h = i.valid in
       let a = both_true (ltb w (length s.runs)) (not (times e (owes_of s w) == 0)) (legal_in (running_of c) r (Arrive w e) view legal) in
       let hw : w < c.workers = subst (λ k. w < k) h.runs_long (ltb-true w (length s.runs) a.0) in
       let some = some_of (times e (owes_of s w)) a.1 in
@@ -89,13 +89,13 @@ module _ {c : Inside} {r : Running} {g : Tasks} (i : IsStored c) (view : running
 
   pub finishes : (w t : ℕ) → is_legal (net_of r.tasks) r.now (Finish w t) ≡ true → Finishes c g w t
   finishes w t legal =
-      let n = net_of c.seen.value.tasks in let s = now_of c in let h = i.sound in
+      let n = net_of c.seen.value.tasks in let s = now_of c in let h = i.valid in
       let own_legal = legal_in (running_of c) r (Finish w t) view legal in
       let a = both_true (ltb w (length s.runs)) (is_run t (run_of s w)) own_legal in
       let hw : w < c.workers = subst (λ k. w < k) h.runs_long (ltb-true w (length s.runs) a.0) in
       let there = ran n c.workers (arrived_of n s) (took_of s) (amount_of s) s h w t (let l = h.runs_long in omega arith) (is_run_of t (run_of s w) a.1) in
       let few_left = owed_few n c.workers (edges_of c.seen.value.tasks) (after n s (Finish w t))
-      (sound_after n net c.workers s (Finish w t) h own_legal) inner_below w hw in
+      (valid_after n net c.workers s (Finish w t) h own_legal) inner_below w hw in
       let same = ap length (get_or-set_same s.owes w (owes_of s w ++ n.feeds t) [] (let l = h.owes_long in omega arith)) in
       let long = length-append (owes_of s w) (n.feeds t) in
       let q = ap (λ (k : Tasks). length (feeds_of k t)) same_tasks in

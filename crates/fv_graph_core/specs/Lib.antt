@@ -2,7 +2,7 @@ pub mod Ends
 pub mod Core
 pub mod Lean
 pub mod Law
-pub mod Sound
+pub mod Valid
 pub mod Kept
 pub mod Running
 pub mod Stored

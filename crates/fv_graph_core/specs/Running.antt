@@ -5,7 +5,7 @@ use Rattle.fv_graph.specs.Tasks.{Tasks}
 use Rattle.fv_graph.specs.TasksBeside.{coded_tasks}
 use Rattle.fv_graph.specs.Graph.{IsGraph, net_of}
 use Rattle.fv_graph_core.specs.Core.{Now}
-use Rattle.fv_graph_core.specs.Sound.{IsSound}
+use Rattle.fv_graph_core.specs.Valid.{IsValid}
 
 pub record Running : Type 0 where
   pub tasks : Tasks
@@ -33,7 +33,7 @@ coded_running =
     (λ r. (r.tasks, (r.workers, (r.room_tasks, (r.room_edges, r.now)))))
     (λ p. record { tasks = p.0; workers = p.1.0; room_tasks = p.1.1.0; room_edges = p.1.1.1.0; now = p.1.1.1.1 }) (λ _. refl)
 
--- each core: its tasks are a graph, and its state is sound
+-- each core: its tasks are a graph, and its state is valid
 pub record IsRunning (r : Running) : Type 0 where
   pub graph : IsGraph r.tasks
-  pub sound : IsSound (net_of r.tasks) r.workers r.now
+  pub valid : IsValid (net_of r.tasks) r.workers r.now

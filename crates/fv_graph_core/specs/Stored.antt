@@ -4,7 +4,7 @@ use Rattle.std.specs.Vec.{vec_capacity}
 use Rattle.fv_graph.specs.TasksBeside.{task_count}
 use Rattle.fv_graph.specs.Graph.{IsGraph, edges_of, net_of}
 use Rattle.fv_graph_core.specs.Core.{Now}
-use Rattle.fv_graph_core.specs.Sound.{IsSound}
+use Rattle.fv_graph_core.specs.Valid.{IsValid}
 use Rattle.fv_graph_core.specs.Kept.{deques_of, rooms_of, owed_of, owed_rooms}
 use Rattle.fv_graph_core.specs.Running.{Running}
 use Rattle.fv_graph_core.specs.declared.running.Core.TheInside.{Inside}
@@ -30,10 +30,10 @@ running_of c = record {
   now = now_of c;
 }
 
--- the state is sound, and each list has room for all tasks, or for all edges
+-- the state is valid, and each list has room for all tasks, or for all edges
 pub record IsStored (c : Inside) : Type 0 where
   pub graph : IsGraph c.seen.value.tasks
-  pub sound : IsSound (net_of c.seen.value.tasks) c.workers (now_of c)
+  pub valid : IsValid (net_of c.seen.value.tasks) c.workers (now_of c)
   pub some_worker : 0 < c.workers
   pub tasks_fit : task_count c.seen.value.tasks ≤ c.room_tasks
   pub edges_fit : edges_of c.seen.value.tasks ≤ c.room_edges

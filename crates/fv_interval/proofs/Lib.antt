@@ -1,3 +1,2 @@
-pub mod Holds
+pub mod lemmas
 pub mod SpansWalked
-pub mod Refused

@@ -5,7 +5,7 @@ use Rattle.std.specs.Prelude.{slice_set}
 use Rattle.std.proofs.lemmas.Bool.{cases_eq, eq-eqb, ne_eqb, cond-true, cond-false, true≢false}
 use Rattle.std.proofs.lemmas.List.{length-append, length-take-le, length-drop, length-set, get_or_default, get_or-set_same, get_or-set_other, get_or-take}
 use Rattle.std.proofs.Math.Nat.{mod-lt}
-use Rattle.fv_base.proofs.Lists.{length_table, table_same, table_items}
+use Rattle.fv_base.proofs.lemmas.Lists.{length_table, table_same, table_items}
 use Rattle.fv_num.specs.declared.op.Op.TheVariants.{Add}
 use Rattle.fv_num.specs.headline.Frames.{table}
 use Rattle.fv_num.specs.headline.Interval.{Interval, full, point}
@@ -17,12 +17,12 @@ use Rattle.fv_diagram.specs.headline.Diagram.{primitive_inputs, is_table_primiti
 use Rattle.fv_diagram.specs.Diagram.{IsWellFormed}
 use Rattle.fv_diagram.specs.headline.Streams.{dealt, every}
 use Rattle.fv_diagram.specs.Walked.{walked, added, summed}
-use Rattle.fv_diagram.proofs.Sums.{every_front}
-use Rattle.fv_diagram.proofs.Turns.{not_below}
+use Rattle.fv_diagram.proofs.lemmas.Sums.{every_front}
+use Rattle.fv_diagram.proofs.lemmas.Turns.{not_below}
 use Rattle.fv_interval.specs.headline.WireSpans.{hull_of, table_span, added_span, summed_span, merged_spans, bound_span, spans, delay_spans}
 use Rattle.fv_interval.specs.headline.SpanHooks.{control_span}
 use Rattle.fv_interval.specs.inner.SpanHooks.{Noted, with_delays, closed_of, span_hooks}
-use Rattle.fv_interval.proofs.Holds.{answers_length}
+use Rattle.fv_interval.proofs.lemmas.Holds.{answers_length}
 
 -- no delay more, and some delays and then others
 none_more : (s : Noted) → s ≡ with_delays s []

@@ -9,7 +9,7 @@ use Rattle.fv_jobs.specs.Between.{IsEnded}
 use Rattle.std.proofs.Common.{get_or, suc, lit<}
 use Rattle.std.proofs.lemmas.Bool.{ltb-true, eqb-true}
 use Rattle.std.proofs.lemmas.List.{take_more, take_all, get_or_push}
-use Rattle.fv_base.proofs.Lists.{length_snoc}
+use Rattle.fv_base.proofs.lemmas.Lists.{length_snoc}
 
 both_true : (b c : Bool) → (b && c) ≡ true → (b ≡ true) × (c ≡ true)
 both_true true c e = (refl, e)

@@ -12,7 +12,7 @@ use Rattle.std.proofs.lemmas.Bool.{ne_eqb}
 use Rattle.std.proofs.lemmas.List.{get_or_append_left, get_or-map}
 use Rattle.std.proofs.Math.Seq.{get_or-append_seam, get_or-append_right}
 use Rattle.std.proofs.lemmas.Slice.Eq.{bytes_eq-Decides}
-use Rattle.fv_base.proofs.Lists.{same_front, same_back}
+use Rattle.fv_base.proofs.lemmas.Lists.{same_front, same_back}
 use Rattle.fv_diagram.specs.declared.control.ControlInfo.{ControlInfo}
 use Rattle.fv_jobs_controls.specs.headline.Labels.{label_of, renamed, labelled, controls_from}
 use Rattle.fv_jobs_controls.specs.Labels.{controls_before, labelled_so, LabelsAreFound, OthersAreNot}

@@ -10,10 +10,10 @@ use Rattle.fv_signal.specs.declared.signal.Signal.{Signal}
 use Rattle.fv_signal.specs.declared.signal.Signal.TheVariants.{Input, Const, Control, Point, Delay, Back, Member, Read, Write}
 use Rattle.fv_signal.specs.headline.Value.{Graph, members, definition, NamesWithin, IsGraph}
 use Rattle.fv_share.specs.Drafts.{Draft, AreClosed, AreOpened, AreShut, BacksWithin, CanClose, IsPending, with_groups, with_tables, with_members, with_all_members}
-use Rattle.fv_share.proofs.Groups.{groups_stay}
+use Rattle.fv_share.proofs.lemmas.Groups.{groups_stay}
 use Rattle.fv_join.specs.declared.copying.Offsets.{Offsets}
 use Rattle.fv_join.specs.Jobs.{NamesBelow, ReadsWithin}
-use Rattle.fv_join.specs.inner.Copied.{renumbered, definitions_of, offsets_behind, NumbersFit, HaveRoom, AreListed, IsAppended, IsImage, IsOneOf, IsSound, IsUnderWay}
+use Rattle.fv_join.specs.inner.Copied.{renumbered, definitions_of, offsets_behind, NumbersFit, HaveRoom, AreListed, IsAppended, IsImage, IsOneOf, IsValid, IsUnderWay}
 use Rattle.fv_join.proofs.Images.{at_prefix}
 
 -- ---- numbers
@@ -43,11 +43,11 @@ have_room g o inputs controls whole reads i c n t s d l =
 
 -- ---- groups that are opened
 
-opened_marked : (d : Draft) → IsSound d → (n : ℕ) → length (with_groups d n).closed ≡ length (with_groups d n).groups
+opened_marked : (d : Draft) → IsValid d → (n : ℕ) → length (with_groups d n).closed ≡ length (with_groups d n).groups
 opened_marked d h zero = h.marked
 opened_marked d h (suc n) = let q = with_groups d n in omega (arith, length_push q.closed false, length_push q.groups [], opened_marked d h n)
 
-opened : (d : Draft) → IsSound d → (n : ℕ) → AreOpened d (with_groups d n) n
+opened : (d : Draft) → IsValid d → (n : ℕ) → AreOpened d (with_groups d n) n
 opened d h zero = record {
   long = omega arith;
   signals = refl;
@@ -84,7 +84,7 @@ abbrev pub begun_with : Draft → (groups : ℕ) → List (List ℤ) → Draft
 begun_with d n tables = with_tables (with_groups d n) tables
 
 -- the groups that are opened wait, and their numbers are those behind the groups before
-pub opened_wait : (d new : Draft) (first n : ℕ) (ts : List (List ℤ)) → IsSound d → first ≡ length d.groups → new ≡ begun_with d n ts → (k : ℕ) → k < n
+pub opened_wait : (d new : Draft) (first n : ℕ) (ts : List (List ℤ)) → IsValid d → first ≡ length d.groups → new ≡ begun_with d n ts → (k : ℕ) → k < n
     → IsPending new (first + k)
 opened_wait d new first n ts h f e k l =
     subst (λ (q : Draft). IsPending q (first + k)) (sym e)
@@ -112,7 +112,7 @@ begun_listed g d new first n f e t l =
     ap (λ (q : Draft). get_or q.tables (first + t) []) e ∙ ap (λ us. get_or us (first + t) []) (begun_tables d n g.tables)
     ∙ ap (λ k. get_or (d.tables ++ g.tables) (k + t) []) f ∙ behind_tables d.tables g.tables t
 
-pub opened_long : (d new : Draft) (first n : ℕ) (ts : List (List ℤ)) → IsSound d → first ≡ length d.groups → new ≡ begun_with d n ts
+pub opened_long : (d new : Draft) (first n : ℕ) (ts : List (List ℤ)) → IsValid d → first ≡ length d.groups → new ≡ begun_with d n ts
     → length new.groups ≡ first + n
 opened_long d new first n ts h f e = ap (λ (q : Draft). length q.groups) e ∙ (opened d h n).long ∙ ap (λ a. a + n) (sym f)
 
@@ -140,7 +140,7 @@ back_within g o m group k whole h e =
     let w = subst (NamesWithin g) b.2 (whole.closed h.place (Const (pos 0)) h.within) in
     (b.0, b.1, w.0, w.1)
 
-module _ (g : Graph) (o : Offsets) (old d : Draft) (images : List ℕ) (sound : IsSound old) (first : o.groups ≡ length old.groups)
+module _ (g : Graph) (o : Offsets) (old d : Draft) (images : List ℕ) (valid : IsValid old) (first : o.groups ≡ length old.groups)
     (first_table : o.tables ≡ length old.tables)
     (h : IsUnderWay g o (length g.signals) (begun_with old (length g.groups) g.tables) d images) where
   abbrev count : ℕ
@@ -156,7 +156,7 @@ module _ (g : Graph) (o : Offsets) (old d : Draft) (images : List ℕ) (sound : 
   new = with_all_members d o.groups lists
 
   opens : AreOpened old begun count
-  opens = let p = opened old sound count in
+  opens = let p = opened old valid count in
       record { long = p.long; signals = p.signals; pending = p.pending; fresh = p.fresh; groups = p.groups; closed = p.closed }
 
   lists_long : length lists ≡ count
@@ -179,7 +179,7 @@ module _ (g : Graph) (o : Offsets) (old d : Draft) (images : List ℕ) (sound : 
   backs : (k : ℕ) → k < count → BacksWithin d (o.groups + k) (length (members g k))
   backs k l s j x m e = elim (cases_lt s (length old.signals)) [
     | inl a ↦ absurd (
-        let none = sound.fresh (o.groups + k) (omega (arith, first)) s j x a (sym (old_first x s a) ∙ e) in
+        let none = valid.fresh (o.groups + k) (omega (arith, first)) s j x a (sym (old_first x s a) ∙ e) in
         omega (arith, none)
         )
     | inr a ↦
@@ -202,7 +202,7 @@ module _ (g : Graph) (o : Offsets) (old d : Draft) (images : List ℕ) (sound : 
   }
 
   marked : length d.closed ≡ length d.groups
-  marked = ap length h.closed ∙ opened_marked old sound count ∙ sym (ap length h.groups)
+  marked = ap length h.closed ∙ opened_marked old valid count ∙ sym (ap length h.groups)
 
   shut : AreShut d new o.groups lists
   shut = (groups_stay d).1 marked o.groups lists (λ k l. pending k (omega (arith, l, lists_long)))
@@ -238,11 +238,11 @@ module _ (g : Graph) (o : Offsets) (old d : Draft) (images : List ℕ) (sound : 
       subst (λ (ss : List Signal). IsOneOf g o (length g.signals) (get_or ss i (Const (pos 0)))) (sym signals_are)
       (h.made i (omega (arith, l, ap length opens.signals)) (omega (arith, w, ap length signals_are)))
 
-  sound_now : IsSound new
-  sound_now = record {
+  valid_now : IsValid new
+  valid_now = record {
     marked = closed_marked d o.groups lists marked;
     fresh = λ k l s j x m e. elim (cases_lt s (length old.signals)) [
-      | inl a ↦ sound.fresh k (omega (arith, l, many)) s j x a (sym (at_prefix old.signals new.signals s x grown a) ∙ e)
+      | inl a ↦ valid.fresh k (omega (arith, l, many)) s j x a (sym (at_prefix old.signals new.signals s x grown a) ∙ e)
       | inr a ↦ absurd (
           let b = back_within g o (get_or new.signals s (Const (pos 0))) k j h.whole (made s a m) (get_or_default new.signals s (Const (pos 0)) x m ∙ e) in
           let z = b.1 in
@@ -263,7 +263,7 @@ module _ (g : Graph) (o : Offsets) (old d : Draft) (images : List ℕ) (sound : 
     groups = groups_before;
     tables = tables_now;
     closed = closed_now;
-    sound = sound_now;
+    valid = valid_now;
     images = at images;
     outputs = refl;
     copied = record {

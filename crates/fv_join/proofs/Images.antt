@@ -5,13 +5,13 @@ use Rattle.std.proofs.lemmas.List.{get_or_append_left, get_or_push, length_push,
 use Rattle.std.proofs.lemmas.List.Elements.{All-head, All-tail, All-get_or, All-from_get_or, All-map, All-push}
 use Rattle.fv_base.specs.headline.Lists.{IsPrefixOf}
 use Rattle.fv_base.specs.inner.Lists.{at}
-use Rattle.fv_base.proofs.Lists.{prefix_refl, prefix_trans}
+use Rattle.fv_base.proofs.lemmas.Lists.{prefix_refl, prefix_trans}
 use Rattle.fv_analysis.specs.headline.Stands.{node}
 use Rattle.fv_signal.specs.declared.signal.Signal.{Signal}
 use Rattle.fv_signal.specs.declared.signal.Signal.TheVariants.{Input, Const, Control, Point, Delay, Back, Member, Read, Write}
 use Rattle.fv_signal.specs.headline.Value.{Graph, definition, OperandsBelow, NamesWithin}
 use Rattle.fv_share.specs.Drafts.{Draft, CanPut, IsPending, IsPut, IsShut, NamesSoFar, OperandsThere, put}
-use Rattle.fv_share.proofs.Puts.{put_stands}
+use Rattle.fv_share.proofs.lemmas.Puts.{put_stands}
 use Rattle.fv_join.specs.declared.copying.Offsets.{Offsets}
 use Rattle.fv_join.specs.inner.Copied.{renumbered, copy_of, AreListed, IsImage, IsOneOf, IsUnderWay}
 

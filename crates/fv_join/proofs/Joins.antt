@@ -12,14 +12,14 @@ use Rattle.fv_signal.specs.declared.signal.Signal.{Signal}
 use Rattle.fv_signal.specs.declared.signal.Signal.TheVariants.{Input, Const, Control, Point, Delay, Back, Member, Read, Write}
 use Rattle.fv_signal.specs.headline.Value.{Graph, value, IsGraph}
 use Rattle.fv_share.specs.Drafts.{Draft, AreClosed, graph_of}
-use Rattle.fv_share.proofs.Kept.{tables_stay}
+use Rattle.fv_share.proofs.lemmas.Kept.{tables_stay}
 use Rattle.fv_join.specs.declared.job.Job.{Job}
 use Rattle.fv_join.specs.declared.copying.Offsets.{Offsets}
 use Rattle.fv_join.specs.Jobs.{CanBeJoined, NamesBelow, ReadsWithin, inputs_of, controls_of, outputs_of}
 use Rattle.fv_join.specs.Joined.{HasDelay, IsJoined, IsNamed, KeepsValues, output}
-use Rattle.fv_join.specs.inner.Copied.{renumbered, IsAppended, IsCopied, IsOneOf, IsSound}
+use Rattle.fv_join.specs.inner.Copied.{renumbered, IsAppended, IsCopied, IsOneOf, IsValid}
 use Rattle.fv_join.proofs.Images.{all_below, at_prefix, image_stays, prefix_long}
-use Rattle.fv_join.proofs.Values.{keeps}
+use Rattle.fv_join.proofs.lemmas.Values.{keeps}
 
 -- one more item
 flat_map_snoc : {A B : Type 0} (f : A → List B) (xs : List A) (x : A) → flat_map f (xs ++ x ∷ []) ≡ flat_map f xs ++ f x
@@ -55,7 +55,7 @@ pub record IsOfJob (jobs : List Job) (n : ℕ) (signal : Signal) : Type 0 where
 
 -- the first n jobs stand in a draft, and nothing else
 pub record AreJoined (jobs : List Job) (n : ℕ) (d : Draft) (outs : List ℕ) : Type 0 where
-  pub sound : IsSound d
+  pub valid : IsValid d
   pub closed : AreClosed d
   pub wide : length outs ≡ outputs_of (take n jobs)
   pub tables : d.tables ≡ tables_of (take n jobs)
@@ -118,7 +118,7 @@ one_job_more jobs n job d new outs more h l is a =
     let sum = sum_by_more (λ (j : Job). length j.graph.outputs) jobs n job l in
     let own : length (let j = get_or jobs n job in j.graph.outputs) ≡ length job.graph.outputs = ap (λ (j : Job). length j.graph.outputs) (is job) in
     let long : length d.signals ≤ length new.signals = prefix_long d.signals new.signals a.grows in record {
-      sound = a.sound;
+      valid = a.valid;
       closed = a.closed h.closed;
       wide = omega (arith, length-append outs more, h.wide, many, sum, own);
       tables = a.tables ∙ ap (λ ts. ts ++ job.graph.tables) h.tables ∙ sym (flat_map_snoc (λ (j : Job). j.graph.tables) (take n jobs) job)
@@ -298,7 +298,7 @@ joined_result jobs d outs (Err e) h can is made = tt
 
 pub none_joined : (jobs : List Job) → AreJoined jobs 0 (record { signals = []; groups = []; closed = []; tables = [] }) []
 none_joined jobs = record {
-  sound = record { marked = refl; fresh = λ k l s i x m e. absurd (omega (arith, m)) };
+  valid = record { marked = refl; fresh = λ k l s i x m e. absurd (omega (arith, m)) };
   closed = λ k l. absurd (omega (arith, l));
   wide = refl;
   tables = refl;

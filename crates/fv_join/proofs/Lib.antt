@@ -1,4 +1,4 @@
 pub mod Images
 pub mod Groups
-pub mod Values
+pub mod lemmas
 pub mod Joins

@@ -7,7 +7,7 @@ ghost use Rattle.fv_share.specs.Drafts.{IsPending, OperandsThere, lists_in};
 ghost use Rattle.fv_base.specs.inner.Lists.{at};
 ghost use Rattle.fv_join.specs.Jobs.{ReadsWithin};
 ghost use Rattle.fv_join.specs.inner.Copied.{renumbered as renumbered_of, copy_of, definitions_of, NumbersFit, HaveRoom};
-ghost use Rattle.fv_join.specs.inner.Copied.{IsSound, IsUnderWay, IsAppended, AreListed};
+ghost use Rattle.fv_join.specs.inner.Copied.{IsValid, IsUnderWay, IsAppended, AreListed};
 
 use crate::job::Job;
 use fv_share::Builder;
@@ -34,7 +34,7 @@ pub(crate) fn append(
     requires reads { ReadsWithin job.now.inputs job.now.controls job.now.graph }
     requires inputs { inputs + job.now.inputs < 2 ^ 32 }
     requires controls { controls + job.now.controls < 2 ^ 32 }
-    requires sound { IsSound builder.old }
+    requires valid { IsValid builder.old }
     ensures { IfOk result (λ outs. IsAppended job.now.graph inputs controls builder.old builder.new outs.items) }
 {
     let graph = &job.graph;

@@ -5,13 +5,13 @@ use Rattle.std.proofs.lemmas.List.Sums.{sum_by-cons}
 use Rattle.fv_diagram.specs.Frames.{Frame, Stream, column, frame_at}
 use Rattle.fv_diagram.specs.headline.Diagram.{Diagram, inputs, outputs}
 use Rattle.fv_diagram.specs.headline.Streams.{beside, run}
-use Rattle.fv_diagram.proofs.Answers.{answers_alike, answers_wide}
-use Rattle.fv_diagram.proofs.Causality.{length_run}
-use Rattle.fv_diagram.proofs.Each.{each_map}
+use Rattle.fv_diagram.proofs.lemmas.Answers.{answers_alike, answers_wide}
+use Rattle.fv_diagram.proofs.lemmas.Causality.{length_run}
+use Rattle.fv_diagram.proofs.lemmas.Each.{each_map}
 use Rattle.fv_join.specs.Joined.{part_controls, part_frames}
 use Rattle.fv_join_diagrams.specs.headline.Parts.{Part, shifted, side_by_side}
 use Rattle.fv_join_diagrams.specs.Parts.{AreWellFormed, PartsAnswer, PartsAnswerAlike, controls_of, inputs_of, outputs_of, own, own_controls, own_frames}
-use Rattle.fv_join_diagrams.proofs.Shifted.{inputs_shifted, shifted_answers}
+use Rattle.fv_join_diagrams.proofs.lemmas.Shifted.{inputs_shifted, shifted_answers}
 
 -- a frame is so wide
 abbrev pub Has : ℕ → Frame → Type 0

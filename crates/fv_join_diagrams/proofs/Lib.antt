@@ -1,4 +1,4 @@
-pub mod Shifted
+pub mod lemmas
 pub mod Whole
 pub mod Beside
 pub mod Propagating

@@ -13,14 +13,14 @@ use Rattle.fv_propagate.specs.Interval.{Interval, full}
 use Rattle.fv_propagate.specs.Value.{Graph, value}
 use Rattle.fv_diagram.specs.headline.Diagram.{inputs, outputs}
 use Rattle.fv_diagram.specs.headline.Streams.{run}
-use Rattle.fv_diagram.proofs.Each.{each_map}
+use Rattle.fv_diagram.proofs.lemmas.Each.{each_map}
 use Rattle.fv_propagate.specs.Laws.{IsOf}
 use Rattle.fv_propagate.specs.SpanHooks.{control_span}
 use Rattle.fv_propagate.specs.headline.Propagated.{AreTaken}
 use Rattle.fv_join.specs.declared.job.Job.{Job}
 use Rattle.fv_join.specs.Jobs as jobs_have
 use Rattle.fv_join.specs.Joined.{IsJoined, output, part_controls, part_frames}
-use Rattle.fv_join.proofs.Values.{part_column, part_frame}
+use Rattle.fv_join.proofs.lemmas.Values.{part_column, part_frame}
 use Rattle.fv_join_diagrams.specs.OfParts.{AreOfParts, IsOfPart, JoinedPropagates}
 use Rattle.fv_join_diagrams.specs.headline.Parts.{Part, side_by_side}
 use Rattle.fv_join_diagrams.specs.Parts.{controls_of, inputs_of, outputs_of, spans_of}

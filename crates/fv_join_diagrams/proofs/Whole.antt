@@ -5,7 +5,7 @@ use Rattle.fv_diagram.specs.headline.Diagram.{Diagram, Primitive, Constant, Cont
 use Rattle.fv_diagram.specs.Diagram.{control_bound, HasNoFreeSlot, IsFree, IsWellFormed}
 use Rattle.fv_join_diagrams.specs.headline.Parts.{Part, shifted, side_by_side}
 use Rattle.fv_join_diagrams.specs.Parts.{AreClosed, PartsAreWhole}
-use Rattle.fv_join_diagrams.proofs.Shifted.{inputs_shifted, outputs_shifted}
+use Rattle.fv_join_diagrams.proofs.lemmas.Shifted.{inputs_shifted, outputs_shifted}
 
 well_shifted : (n : ℕ) (d : Diagram) → IsWellFormed d → IsWellFormed (shifted n d)
 well_shifted n (Primitive p) h = h

@@ -19,9 +19,9 @@ use Rattle.fv_lex.specs.headline.Pieces.{is_name, is_integer, is_nothing, closes
 use Rattle.fv_lex.specs.headline.Pieces.{begins_comment, ends_line, has_close, greatest_literal, IsPiece, blank_byte, line_comment, block_comment, longest_token}
 use Rattle.fv_lex.specs.headline.Pieces.{IsFault, unclosed_text, unclosed_comment, real_literal, large_literal, bad_byte}
 use Rattle.fv_lex.specs.inner.Steps.{to_quote, to_close, bare_underscores, number_next, slash_next, sign_next, first_next, next_piece}
-use Rattle.fv_lex.proofs.Runs.{Stops, prefix_len-passes, run_is, list_all_more}
-use Rattle.fv_lex.proofs.Classes.{digit_range, no_letter, no_blank}
-use Rattle.fv_lex.proofs.Sound.{real_parts, tail_behind, front_before, integer_all, name_run, name_head, Bare}
+use Rattle.fv_lex.proofs.lemmas.Runs.{Stops, prefix_len-passes, run_is, list_all_more}
+use Rattle.fv_lex.proofs.lemmas.Classes.{digit_range, no_letter, no_blank}
+use Rattle.fv_lex.proofs.lemmas.Sound.{real_parts, tail_behind, front_before, integer_all, name_run, name_head, Bare}
 
 -- ---- the first byte
 no_count : (v : Bool) → nat_lt 0 (cond v 0 0) ≡ false

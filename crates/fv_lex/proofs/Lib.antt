@@ -1,7 +1,5 @@
 pub mod TokenLists
-pub mod Runs
-pub mod Classes
-pub mod Sound
+pub mod lemmas
 pub mod Complete
 pub mod Unique
 pub mod Total

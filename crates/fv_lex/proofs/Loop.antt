@@ -23,8 +23,8 @@ use Rattle.fv_lex.specs.inner.Steps.{bare_underscores, IsBare, next_piece}
 use Rattle.fv_lex.specs.headline.Cuts.{deepest, depth_after, Cut, Cuts, nothing_more, piece_first, Ends, whole, faulty, too_deep, first_place, place_after, token_of}
 use Rattle.fv_lex.specs.headline.Cuts.{tokens_of, end_of, refusal_at, answer_of, longest_text, Has, cut}
 use Rattle.fv_lex.proofs.TokenLists.{length-tokens_in}
-use Rattle.fv_lex.proofs.Runs.{prefix_len-passes}
-use Rattle.fv_lex.proofs.Sound.{At, Told, sound, wires_some, run_head}
+use Rattle.fv_lex.proofs.lemmas.Runs.{prefix_len-passes}
+use Rattle.fv_lex.proofs.lemmas.Sound.{At, Told, sound, wires_some, run_head}
 
 -- ---- a piece at the end of a cut
 cuts_more : (text end : List ℕ) (cuts : List Cut) (depth deep : ℕ) → Cuts text depth cuts end deep

@@ -16,7 +16,7 @@ use Rattle.fv_lex.specs.inner.Steps.{next_piece}
 use Rattle.fv_lex.specs.headline.Cuts.{deepest, depth_after, Cut, Cuts, nothing_more, piece_first, Ends, whole, faulty, too_deep, answer_of, longest_text, Has, too_long}
 use Rattle.fv_lex.specs.headline.Cuts.{cut}
 use Rattle.fv_lex.specs.Cuts.{HasAtLeastOne}
-use Rattle.fv_lex.proofs.Sound.{At, Told, sound}
+use Rattle.fv_lex.proofs.lemmas.Sound.{At, Told, sound}
 
 -- a cut of a text as far as it goes
 record Cutting (text : List ℕ) (depth : ℕ) : Type 0 where

@@ -6,7 +6,7 @@ use Rattle.std.proofs.lemmas.List.{drop-append-le, length-append, length-drop, l
 use Rattle.std.proofs.Math.Seq.{drop-append-add, drop-length, take-add, take-append_seam}
 use mathlib.Core.Logic.{◌⊎◌, inl, inr}
 use Rattle.fv_lines.proofs.Rotate.{ring, take_both}
-use Rattle.fv_lines.proofs.Parts.{replaced, length_replaced, new_there, kept_before, kept_behind}
+use Rattle.fv_lines.proofs.lemmas.Parts.{replaced, length_replaced, new_there, kept_before, kept_behind}
 
 -- of m cells this one is at the place j of the ring order from s on
 abbrev pub IsAt : (m s j cell : ℕ) → Type 0

@@ -7,8 +7,8 @@ use Rattle.fv_lines.specs.Flat.{HasOrigin, IsBegun}
 use Rattle.fv_lines.specs.Solo.{history_at, len_at, start_at, first_at, lengths_in, shapes_in, cells_in, IsSolo}
 use Rattle.fv_lines.specs.declared.shape.LaneShape.{LaneShape}
 use Rattle.fv_lines.specs.declared.solo.Solo.{Solo}
-use Rattle.fv_lines.proofs.Parts.{place_fits, length_part}
-use Rattle.fv_lines.proofs.Tables.{no_state, same_or_not, start_is, history_is, len_is, same_part}
+use Rattle.fv_lines.proofs.lemmas.Parts.{place_fits, length_part}
+use Rattle.fv_lines.proofs.lemmas.Tables.{no_state, same_or_not, start_is, history_is, len_is, same_part}
 
 -- the place of lane i, its shape and its origin, as they are looked up, and the n cells from its place on
 abbrev pub place_found : Solo → ℕ → ℕ
@@ -34,17 +34,17 @@ pub record IsReached (s : Solo) (i : ℕ) (x : LaneShape) (n : ℕ) : Type 0 whe
   pub begun : IsBegun (shape_found s i x).history (shape_found s i x).len (origin_found s i) (cells_found s i n)
 
 pub reached : (s : Solo) (i : ℕ) (x : LaneShape) (n : ℕ) → IsSolo s → i < length (lengths_in s) → n ≡ slice_index (lengths_in s) i → IsReached s i x n
-reached s i x n sound l size =
-    let lane = sound.lanes i l in
-    let place : place_found s i ≡ sum (take i (lengths_in s)) = sound.places.1 i l in
+reached s i x n valid l size =
+    let lane = valid.lanes i l in
+    let place : place_found s i ≡ sum (take i (lengths_in s)) = valid.places.1 i l in
     let cells : cells_found s i n ≡ part (lengths_in s) i (cells_in s) = same_part (lengths_in s) i (place_found s i) n (cells_in s) place size in
-    let long : length (part (lengths_in s) i (cells_in s)) ≡ slice_index (lengths_in s) i = length_part (lengths_in s) i (cells_in s) l sound.fits in
-    let history : history_at (shapes_in s) i ≡ (shape_found s i x).history = history_is (shapes_in s) i x (omega (arith, l, sound.shapes)) in
-    let len : len_at (shapes_in s) i ≡ (shape_found s i x).len = len_is (shapes_in s) i x (omega (arith, l, sound.shapes)) in
-    let origin : start_at s.states.now i ≡ origin_found s i = start_is s.states.now i no_state (omega (arith, l, sound.states)) in
+    let long : length (part (lengths_in s) i (cells_in s)) ≡ slice_index (lengths_in s) i = length_part (lengths_in s) i (cells_in s) l valid.fits in
+    let history : history_at (shapes_in s) i ≡ (shape_found s i x).history = history_is (shapes_in s) i x (omega (arith, l, valid.shapes)) in
+    let len : len_at (shapes_in s) i ≡ (shape_found s i x).len = len_is (shapes_in s) i x (omega (arith, l, valid.shapes)) in
+    let origin : start_at s.states.now i ≡ origin_found s i = start_is s.states.now i no_state (omega (arith, l, valid.states)) in
     record {
       place = place;
-      ends = omega (arith, place, size, place_fits (lengths_in s) i l, sound.fits);
+      ends = omega (arith, place, size, place_fits (lengths_in s) i l, valid.fits);
       cells = cells;
       history = history;
       len = len;

@@ -11,13 +11,13 @@ use Rattle.fv_lines.specs.Hold.{from_start}
 use Rattle.fv_lines.specs.Solo.{lengths_in, shapes_in, cells_in, lanes_of, lane_at, IsSolo, IsLane, history_at, block_at, len_at, start_at}
 use Rattle.fv_lines.specs.declared.shape.LaneShape.{LaneShape}
 use Rattle.fv_lines.specs.declared.solo.Solo.{Solo}
-use Rattle.fv_lines.proofs.Parts.{IsNewPart, length_part, length_with}
-use Rattle.fv_lines.proofs.Tables.{Lists, count_in, lane_in, more, same_rest}
+use Rattle.fv_lines.proofs.lemmas.Parts.{IsNewPart, length_part, length_with}
+use Rattle.fv_lines.proofs.lemmas.Tables.{Lists, count_in, lane_in, more, same_rest}
 use Rattle.fv_lines.proofs.Reached.{place_found, shape_found, origin_found, cells_found, reached, counted}
 
 -- these cells of the lane, which has n, hold its samples and these values
 pub record IsWritten (s : Solo) (i : ℕ) (x : LaneShape) (n : ℕ) (new values : List ℤ) : Type 0 where
-  pub sound : IsSolo s
+  pub valid : IsSolo s
   pub there : i < length (lengths_in s)
   pub cells : n ≡ slice_index (lengths_in s) i
   pub fits : slice_index s.written.now i + length values ≤ s.frames
@@ -47,18 +47,18 @@ lists_of s = record {
 module _ {s : Solo} {i : ℕ} {x : LaneShape} {n : ℕ} {new values : List ℤ} (w : IsWritten s i x n new values) where
   new_part : IsNewPart (lengths_in s) i (cells_in s) new
   new_part =
-      let at = reached s i x n w.sound w.there w.cells in
+      let at = reached s i x n w.valid w.there w.cells in
       record {
         there = w.there;
-        fits = w.sound.fits;
-        size = w.size ∙ ap length at.cells ∙ length_part (lengths_in s) i (cells_in s) w.there w.sound.fits;
+        fits = w.valid.fits;
+        size = w.size ∙ ap length at.cells ∙ length_part (lengths_in s) i (cells_in s) w.there w.valid.fits;
       }
 
   -- the lane has these values more, and each other one is as it was
   pub lanes_written : table (length (lengths_in s)) (lane_in (record (lists_of s) { written = written_after s i (length values); cells = cells_after s i n new }))
       ≡ set (lanes_of s) i (all_appended (lane_at s i) (argument values) (length values))
   lanes_written =
-      let at = reached s i x n w.sound w.there w.cells in
+      let at = reached s i x n w.valid w.there w.cells in
       let h : ℕ = (shape_found s i x).history in
       let p : ℕ = place_found s i in
       let count : count_in (lists_of s) i ≡ h + slice_index s.written.now i = omega (arith, at.history) in
@@ -66,7 +66,7 @@ module _ {s : Solo} {i : ℕ} {x : LaneShape} {n : ℕ} {new values : List ℤ} 
       (same_rest (lengths_in s) i p n (cells_in s) new at.place w.cells)
       ∙ more (lists_of s) i new values (record {
         new_part = new_part;
-        written_long = w.sound.written;
+        written_long = w.valid.written;
         grown =
             ap₂ (λ (k o : ℕ). take (k + length values) (from_start o new)) count at.first ∙ w.list
             ∙ ap (λ (xs : List ℤ). xs ++ values)
@@ -76,21 +76,21 @@ module _ {s : Solo} {i : ℕ} {x : LaneShape} {n : ℕ} {new values : List ℤ} 
 
   -- as many lists and cells
   pub written_long : length (written_after s i (length values)) ≡ length (lengths_in s)
-  written_long = length-set s.written.now i (slice_index s.written.now i + length values) ∙ w.sound.written
+  written_long = length-set s.written.now i (slice_index s.written.now i + length values) ∙ w.valid.written
 
   pub cells_long : length (cells_after s i n new) ≡ length (cells_in s)
   cells_long =
-      let at = reached s i x n w.sound w.there w.cells in
+      let at = reached s i x n w.valid w.there w.cells in
       ap length (same_rest (lengths_in s) i (place_found s i) n (cells_in s) new at.place w.cells) ∙ length_with new_part
 
   pub lanes_stay : (j : ℕ) → j < length (lengths_in s) → IsLane (history_at (shapes_in s) j) (block_at (shapes_in s) j) (len_at (shapes_in s) j)
       (slice_index (lengths_in s) j) (start_at s.states.now j) (slice_index (written_after s i (length values)) j) s.frames
   lanes_stay j l =
-      let lane = w.sound.lanes j l in
+      let lane = w.valid.lanes j l in
       record {
         long = lane.long;
         shaped = lane.shaped;
         framed = lane.framed;
-        upto = counted s.written.now i j (length values) s.frames (omega (arith, w.there, w.sound.written)) w.fits lane.upto;
+        upto = counted s.written.now i j (length values) s.frames (omega (arith, w.there, w.valid.written)) w.fits lane.upto;
         placed = lane.placed;
       }

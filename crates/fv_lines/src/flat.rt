@@ -29,6 +29,18 @@ pub(crate) fn get(cells: &[i32], shape: &LaneShape, origin: u64, index: u64, bac
     cells[shape.cell(origin + index - back) as usize]
 }
 
+// These numbers become others, as many. The second piece of a copy has none, where it does not go over the end of the cells, and so it is
+// told apart.
+#[inline(always)]
+fn copy_if_some(to: &mut [i32], from: &[i32])
+    requires { length to.old ≡ length from.now }
+    ensures { to.new ≡ from.now }
+{
+    if !from.is_empty() {
+        to.copy_from_slice(from);
+    }
+}
+
 /// Writes these samples of the block from number `index` on, behind all before them.
 pub(crate) fn put_many(
     cells: &mut [i32],
@@ -47,7 +59,7 @@ pub(crate) fn put_many(
     // As many as lie before the end of the cells, and then the others from their beginning on.
     let before = values.len().min(cells.len() - first);
     cells[first..first + before].copy_from_slice(&values[..before]);
-    cells[..values.len() - before].copy_from_slice(&values[before..]);
+    copy_if_some(&mut cells[..values.len() - before], &values[before..]);
 }
 
 /// As many samples as `to` has, which lie so far back before the block's samples from number `index` on.
@@ -70,7 +82,7 @@ pub(crate) fn get_many(
     let before = to.len().min(cells.len() - first);
     let after = to.len() - before;
     to[..before].copy_from_slice(&cells[first..first + before]);
-    to[before..].copy_from_slice(&cells[..after]);
+    copy_if_some(&mut to[before..], &cells[..after]);
 }
 
 /// Makes the history that the state names begin at the front, where the lane is copied. Returns the origin.

@@ -38,7 +38,7 @@ impl<'a, 'l, 's, 'b, 'c> Solo<'a, 'l, 's, 'b, 'c> {
         requires lists { AreLists (lengths_of layout.now) shapes.now states.old written.old cells.old }
         requires lanes { AreHeld (lengths_of layout.now) shapes.now states.old }
         requires frames { AreFramed (lengths_of layout.now) shapes.now frames }
-        ensures sound { IsSolo result }
+        ensures valid { IsSolo result }
         ensures kept { rest_of result
             ≡ rest_in cells.entry.ghost_name states.entry.ghost_name written.entry.ghost_name (lengths_of layout.now) shapes.now frames }
         ensures lanes { lanes_of result ≡ opening_lanes (lengths_of layout.now) shapes.now states.old frames cells.old }
@@ -65,11 +65,11 @@ impl<'a, 'l, 's, 'b, 'c> Solo<'a, 'l, 's, 'b, 'c> {
 
     /// One more sample of a lane.
     pub fn append(&mut self, lane: u64, value: i32)
-        requires sound { IsSolo self.old }
+        requires valid { IsSolo self.old }
         requires there { lane < length (lanes_of self.old) }
         requires room { 1 ≤ (lane_of (lanes_of self.old) lane).room }
         ensures lanes { lanes_of self.new ≡ slice_set (lanes_of self.old) lane (appended (lane_of (lanes_of self.old) lane) value) }
-        ensures sound { IsSolo self.new }
+        ensures valid { IsSolo self.new }
         ensures kept { rest_of self.new ≡ rest_of self.old }
     {
         self.write(lane, value);
@@ -77,7 +77,7 @@ impl<'a, 'l, 's, 'b, 'c> Solo<'a, 'l, 's, 'b, 'c> {
 
     /// The sample of a lane that lies so far back before a sample of the block.
     pub fn at(&self, lane: u64, index: u64, back: u64) -> i32
-        requires sound { IsSolo self.now }
+        requires valid { IsSolo self.now }
         requires there { lane < length (lanes_of self.now) }
         requires small { index < 2 ^ 32 }
         requires sample { HasSample (lane_of (lanes_of self.now) lane) index back }
@@ -102,7 +102,7 @@ impl<'a, 'l, 's, 'b, 'c> Solo<'a, 'l, 's, 'b, 'c> {
 
     /// How many samples more a lane takes.
     pub fn room(&self, lane: u64) -> u32
-        requires sound { IsSolo self.now }
+        requires valid { IsSolo self.now }
         requires there { lane < length (lanes_of self.now) }
         ensures { result ≡ (lane_of (lanes_of self.now) lane).room }
     {
@@ -111,7 +111,7 @@ impl<'a, 'l, 's, 'b, 'c> Solo<'a, 'l, 's, 'b, 'c> {
 
     /// The sample that lies so far back before a sample of the block is there.
     pub fn has_sample(&self, lane: u64, index: u64, back: u64) -> bool
-        requires sound { IsSolo self.now }
+        requires valid { IsSolo self.now }
         requires there { lane < length (lanes_of self.now) }
         requires small { index < 2 ^ 32 }
         ensures { IsTrue result ↔ HasSample (lane_of (lanes_of self.now) lane) index back }
@@ -124,7 +124,7 @@ impl<'a, 'l, 's, 'b, 'c> Solo<'a, 'l, 's, 'b, 'c> {
 
     /// The lane has just so many samples of the block.
     pub fn has_just(&self, lane: u64, samples: u64) -> bool
-        requires sound { IsSolo self.now }
+        requires valid { IsSolo self.now }
         requires there { lane < length (lanes_of self.now) }
         ensures { IsTrue result ↔ HasJust (lane_of (lanes_of self.now) lane) samples }
     {
@@ -134,7 +134,7 @@ impl<'a, 'l, 's, 'b, 'c> Solo<'a, 'l, 's, 'b, 'c> {
     /// The samples that lie so far back before as many samples of the block, from this one on. The cells of a lane lie one after another, so
     /// they are one or two copies.
     pub fn load_many(&self, lane: u64, index: u64, back: u64, to: &mut [i32])
-        requires sound { IsSolo self.now }
+        requires valid { IsSolo self.now }
         requires there { lane < length (lanes_of self.now) }
         requires small { index + length to.old ≤ 2 ^ 32 }
         requires samples { (k : ℕ) → k < length to.old → HasSample (lane_of (lanes_of self.now) lane) (index + k) back }
@@ -146,12 +146,12 @@ impl<'a, 'l, 's, 'b, 'c> Solo<'a, 'l, 's, 'b, 'c> {
 
     /// These samples of a lane, one after another.
     pub fn append_many(&mut self, lane: u64, values: &[i32])
-        requires sound { IsSolo self.old }
+        requires valid { IsSolo self.old }
         requires there { lane < length (lanes_of self.old) }
         requires room { length values.now ≤ (lane_of (lanes_of self.old) lane).room }
         ensures lanes { lanes_of self.new
             ≡ slice_set (lanes_of self.old) lane (all_appended (lane_of (lanes_of self.old) lane) (argument values.now) (length values.now)) }
-        ensures sound { IsSolo self.new }
+        ensures valid { IsSolo self.new }
         ensures kept { rest_of self.new ≡ rest_of self.old }
     {
         self.write_many(lane, values)
@@ -159,7 +159,7 @@ impl<'a, 'l, 's, 'b, 'c> Solo<'a, 'l, 's, 'b, 'c> {
 
     /// The block ends. The cells and the states then hold every lane's next history.
     pub fn finish(self)
-        requires sound { IsSolo self }
+        requires valid { IsSolo self }
         requires full { AreFull (lanes_of self) }
 
         // What the loans end with: `self.exit` has them in the order of the fields.
@@ -178,10 +178,10 @@ impl<'a, 'l, 's, 'b, 'c> Solo<'a, 'l, 's, 'b, 'c> {
 
     // One more sample of a lane, by its number of written samples.
     fn write(&mut self, lane: u64, value: i32)
-        requires sound { IsSolo self.old }
+        requires valid { IsSolo self.old }
         requires there { lane < length (lengths_in self.old) }
         requires room { slice_index self.old.written.now lane < self.old.frames }
-        ensures sound { IsSolo self.new }
+        ensures valid { IsSolo self.new }
         ensures kept { rest_of self.new ≡ rest_of self.old }
         ensures lanes { lanes_of self.new ≡ slice_set (lanes_of self.old) lane (appended (lane_at self.old lane) value) }
     {
@@ -203,10 +203,10 @@ impl<'a, 'l, 's, 'b, 'c> Solo<'a, 'l, 's, 'b, 'c> {
 
     // These samples of a lane, by its number of written samples.
     fn write_many(&mut self, lane: u64, values: &[i32])
-        requires sound { IsSolo self.old }
+        requires valid { IsSolo self.old }
         requires there { lane < length (lengths_in self.old) }
         requires room { slice_index self.old.written.now lane + length values.now ≤ self.old.frames }
-        ensures sound { IsSolo self.new }
+        ensures valid { IsSolo self.new }
         ensures kept { rest_of self.new ≡ rest_of self.old }
         ensures lanes { lanes_of self.new
             ≡ slice_set (lanes_of self.old) lane (all_appended (lane_at self.old lane) (argument values.now) (length values.now)) }
@@ -229,7 +229,7 @@ impl<'a, 'l, 's, 'b, 'c> Solo<'a, 'l, 's, 'b, 'c> {
 
     // A sample of a lane, from its origin.
     fn read(&self, lane: u64, index: u64, back: u64) -> i32
-        requires sound { IsSolo self.now }
+        requires valid { IsSolo self.now }
         requires there { lane < length (lengths_in self.now) }
         requires small { index < 2 ^ 32 }
         requires sample { HasSample (lane_at self.now lane) index back }
@@ -245,7 +245,7 @@ impl<'a, 'l, 's, 'b, 'c> Solo<'a, 'l, 's, 'b, 'c> {
 
     // As many samples of a lane as `to` has, from its origin.
     fn read_many(&self, lane: u64, index: u64, back: u64, to: &mut [i32])
-        requires sound { IsSolo self.now }
+        requires valid { IsSolo self.now }
         requires there { lane < length (lengths_in self.now) }
         requires small { index + length to.old ≤ 2 ^ 32 }
         requires samples { (k : ℕ) → k < length to.old → HasSample (lane_at self.now lane) (index + k) back }

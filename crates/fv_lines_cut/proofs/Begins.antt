@@ -7,7 +7,7 @@ use Rattle.std.proofs.lemmas.List.{length-append, length-map, get_or-map, get_or
 use Rattle.std.proofs.Math.Seq.{get_or-append_seam}
 use Rattle.fv_pool.specs.Layout.{part}
 use Rattle.fv_lines.specs.Solo.{start_at}
-use Rattle.fv_lines.proofs.Parts.{place_more}
+use Rattle.fv_lines.proofs.lemmas.Parts.{place_more}
 use Rattle.fv_lines.specs.declared.shape.LaneShape.{LaneShape}
 use Rattle.fv_lines.specs.declared.shape.LaneState.{LaneState}
 use Rattle.fv_lines.specs.declared.writer.LaneWriter.{LaneWriter}

@@ -1,7 +1,4 @@
-pub mod Registers
-pub mod Tasks
-pub mod Streams
-pub mod Named
+pub mod lemmas
 pub mod Still
 pub mod Appends
 pub mod Blocks

@@ -7,9 +7,9 @@ mod laws;
 mod machine;
 mod operate;
 mod sample;
-mod sound;
 mod step;
 mod store;
+mod valid;
 
 pub use counts::Counts;
 pub use laws::{
@@ -17,6 +17,6 @@ pub use laws::{
     tasks_are_done, windows_follow,
 };
 pub use machine::run;
-pub use sound::are_sound;
 pub use step::Step;
 pub use store::Store;
+pub use valid::are_valid;

@@ -5,7 +5,7 @@ ghost use Rattle.fv_loopcode_tests.specs.Shelf.{HasRoom};
 ghost use Rattle.fv_loopcode_tests.specs.Codes.{running_sum, difference, scaled};
 
 use crate::shelf::Shelf;
-use fv_loopcode::{Counts, Step, are_sound, run};
+use fv_loopcode::{Counts, Step, are_valid, run};
 use fv_loopcode_machine::Code;
 use fv_num::Op;
 use std::alloc::{AllocError, Global};
@@ -147,7 +147,7 @@ pub(crate) fn shelf_of(alloc: Global, count: u64) -> Result<Shelf, AllocError>
 #[test]
 fn code_reads_earlier_steps(rt: HostRuntime) -> Result<(), Fail> {
     for (name, steps) in &REFUSED {
-        assert!(rt; !are_sound(steps, ONE_LANE), "{name}");
+        assert!(rt; !are_valid(steps, ONE_LANE), "{name}");
         let code = Code::new(rt.alloc(), steps, ONE_LANE)?;
         assert!(rt; code.is_none(), "{name}");
     }

@@ -1,4 +1,4 @@
-pub mod States
+pub mod lemmas
 pub mod StoredLemmas
 pub mod Walks
 pub mod Recordings

@@ -35,7 +35,7 @@ impl From<AllocError> for ReadError {
 }
 
 /// Fills `to` with the next bytes of a role, or its front with as many as are left, and says how many.
-#[tactic(auto, using(crate::proofs::States::steps))]
+#[tactic(auto, using(crate::proofs::lemmas::States::steps))]
 pub fn fill<D: Desk>(desk: &mut D, role: Role, to: &mut [u8]) -> Result<usize, Failed>
     ensures count { IfOk result (λ n. n ≤ length to.new) }
     ensures taken { IfOk result (λ n. Takes role (take n to.new) (D.state desk.old) (D.state desk.new)) }
@@ -57,7 +57,7 @@ pub fn fill<D: Desk>(desk: &mut D, role: Role, to: &mut [u8]) -> Result<usize, F
 }
 
 // Takes some bytes into `to` from place `at` on, and says how many.
-#[tactic(auto, using(crate::proofs::States::steps))]
+#[tactic(auto, using(crate::proofs::lemmas::States::steps))]
 fn fill_part<D: Desk>(desk: &mut D, role: Role, to: &mut [u8], at: usize) -> Result<usize, Failed>
     requires { at < length to.old }
     ensures count { IfOk result (λ n. at + n ≤ length to.new) }
@@ -78,7 +78,7 @@ fn fill_part<D: Desk>(desk: &mut D, role: Role, to: &mut [u8], at: usize) -> Res
 const PIECE: usize = 4096;
 
 /// Passes over the next `count` bytes of a role, or over as many as are left, and says how many.
-#[tactic(auto, using(crate::proofs::States::steps))]
+#[tactic(auto, using(crate::proofs::lemmas::States::steps))]
 pub fn skip<D: Desk>(desk: &mut D, role: Role, count: u64) -> Result<u64, Failed>
     ensures count { IfOk result (λ n. n ≤ count) }
     ensures taken { IfOk result (λ n. (bytes : List ℕ) × (length bytes ≡ n) × Takes role bytes (D.state desk.old) (D.state desk.new)) }
@@ -101,7 +101,7 @@ pub fn skip<D: Desk>(desk: &mut D, role: Role, count: u64) -> Result<u64, Failed
 }
 
 // Passes over some of the next `most` bytes, and says how many.
-#[tactic(auto, using(crate::proofs::States::steps))]
+#[tactic(auto, using(crate::proofs::lemmas::States::steps))]
 fn skip_part<D: Desk>(desk: &mut D, role: Role, piece: &mut [u8], most: u64) -> Result<u64, Failed>
     requires some { 0 < most }
     requires room { 0 < length piece.old }
@@ -125,7 +125,7 @@ fn skip_part<D: Desk>(desk: &mut D, role: Role, piece: &mut [u8], most: u64) -> 
 const CHUNK: usize = 65536;
 
 /// Reads the next bytes of a role: so many, or as many as are left.
-#[tactic(auto, using(crate::proofs::States::steps))]
+#[tactic(auto, using(crate::proofs::lemmas::States::steps))]
 pub fn read_up_to<D: Desk>(
     alloc: Global,
     desk: &mut D,
@@ -155,7 +155,7 @@ pub fn read_up_to<D: Desk>(
 }
 
 // Appends the next `want` bytes to `bytes`, or as many as are left, through the chunk, and says how many.
-#[tactic(auto, using(crate::proofs::States::steps))]
+#[tactic(auto, using(crate::proofs::lemmas::States::steps))]
 fn append_next<D: Desk>(
     desk: &mut D,
     role: Role,
@@ -179,7 +179,7 @@ fn append_next<D: Desk>(
 }
 
 /// Writes all the bytes, unless a call fails: then a part from their front is written.
-#[tactic(auto, using(crate::proofs::States::steps))]
+#[tactic(auto, using(crate::proofs::lemmas::States::steps))]
 pub fn write_all<D: Desk>(desk: &mut D, role: Role, bytes: &[u8]) -> Result<(), Failed>
     ensures ok { OnOk result (Appends role bytes.now (D.state desk.old) (D.state desk.new)) }
     ensures err { OnErr result ((part : List ℕ) × IsPrefixOf part bytes.now × Appends role part (D.state desk.old) (D.state desk.new)) }
@@ -210,7 +210,7 @@ fn write_part<D: Desk>(desk: &mut D, role: Role, bytes: &[u8], at: usize) -> Res
 }
 
 /// Writes the pieces one after another, unless a call fails: then a part from their front is written.
-#[tactic(auto, using(crate::proofs::States::steps))]
+#[tactic(auto, using(crate::proofs::lemmas::States::steps))]
 pub fn write_pieces<D: Desk>(desk: &mut D, role: Role, pieces: &[&[u8]]) -> Result<(), Failed>
     ensures ok { OnOk result (Appends role (joined pieces.now) (D.state desk.old) (D.state desk.new)) }
     ensures err { OnErr result ((part : List ℕ) × IsPrefixOf part (joined pieces.now) × Appends role part (D.state desk.old) (D.state desk.new)) }

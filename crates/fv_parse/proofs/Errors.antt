@@ -1,6 +1,6 @@
 -- The first static error, a step at a time.
 use Rattle.std.proofs.Common.{◌≡◌, ℕ, ◌+◌, ◌-◌, ◌<◌, ◌≤◌, List, length, drop, get_or, Option, sym, ap, ap₂, ◌∙◌, arith}
-use Rattle.fv_base.proofs.Lists.{drop_step}
+use Rattle.fv_base.proofs.lemmas.Lists.{drop_step}
 use Rattle.fv_lex.specs.headline.Token.{Lexed}
 use Rattle.fv_parse_tree.specs.declared.node.TreeId.{TreeId}
 use Rattle.fv_parse.specs.declared.clash.StaticError.{StaticError}

@@ -11,7 +11,7 @@ use Rattle.std.proofs.lemmas.List.{take_more}
 use Rattle.std.proofs.lemmas.Map.Text.{btree_map_updates_str}
 use Rattle.std.proofs.lemmas.Slice.Eq.{bytes_eq-Decides}
 use denote.Ref.{Bor}
-use Rattle.fv_base.proofs.Lists.{drop_step}
+use Rattle.fv_base.proofs.lemmas.Lists.{drop_step}
 use Rattle.fv_lex.specs.headline.Token.{Lexed}
 use Rattle.fv_parse.specs.declared.definitions.Defined.{Defined}
 use Rattle.fv_parse.specs.declared.clash.StaticError.{StaticError}

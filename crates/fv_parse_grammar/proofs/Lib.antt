@@ -1,5 +1,2 @@
-pub mod Loops
-pub mod Complete
-pub mod Tokens
+pub mod lemmas
 pub mod Separated
-pub mod Sound

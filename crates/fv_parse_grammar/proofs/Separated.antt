@@ -11,7 +11,7 @@ use Rattle.fv_parse_grammar.specs.Descent.{a_value, a_literal, literal_list, Ste
 use Rattle.fv_parse_grammar.specs.headline.Tree.{Tree}
 use Rattle.fv_parse_grammar.specs.headline.Grammar.{SpellsNames, one_name, more_names}
 use Rattle.fv_parse_grammar.specs.Descent.{at_comma, separated, name_list}
-use Rattle.fv_parse_grammar.proofs.Tokens.{bind_ok, read_as, a_name_ok, at_comma_is}
+use Rattle.fv_parse_grammar.proofs.lemmas.Tokens.{bind_ok, read_as, a_name_ok, at_comma_is}
 
 -- ---- loops
 -- What each turn keeps, the loop keeps.

@@ -15,7 +15,7 @@ use Rattle.fv_parse_grammar.specs.headline.Symbols.{head}
 use Rattle.fv_parse_grammar.specs.headline.Tree.{Tree}
 use Rattle.fv_parse_grammar.specs.headline.Grammar.{Primary, number, plus_number, minus_number, minus_name, named, wire, cut, plus, minus, primitive, grouped, abstracted}
 use Rattle.fv_parse_grammar.specs.headline.Grammar.{cased, iterated, ported, switched, slid, paneled}
-use Rattle.fv_parse_grammar.proofs.Tokens.{is_integer, is_name, is_plus, is_minus, is_underscore, is_exclamation, is_open, is_backslash, is_case, is_waveform}
+use Rattle.fv_parse_grammar.proofs.lemmas.Tokens.{is_integer, is_name, is_plus, is_minus, is_underscore, is_exclamation, is_open, is_backslash, is_case, is_waveform}
 use Rattle.fv_parse_grammar.specs.headline.Grammar.{waved}
 use Rattle.fv_parse_grammar.specs.Descent.{waveform}
 use Rattle.fv_parse_prefixes.proofs.Plans.{counted_all, LiteralList}

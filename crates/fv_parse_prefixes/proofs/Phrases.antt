@@ -21,7 +21,7 @@ use Rattle.fv_parse_prefixes.proofs.Plans.{both, nought, signed, Onward, stay, o
 use Rattle.fv_parse_prefixes.proofs.Plans.{GoesOn, Then, Spans, Takes, stuck, behind, next, made, done, joins, as_takes, as_plan, onward_from, unread, one_taken}
 use Rattle.fv_parse_prefixes.proofs.Plans.{by_test, Reads}
 use Rattle.fv_parse_prefixes.proofs.Pieces.{expect_passes, ReadsInside, enclosed_reads}
-use Rattle.fv_parse_grammar.proofs.Tokens.{is_integer, is_name, is_plus, is_minus, is_open}
+use Rattle.fv_parse_grammar.proofs.lemmas.Tokens.{is_integer, is_name, is_plus, is_minus, is_open}
 use Rattle.fv_parse_prefixes.proofs.Operands.{headed, leaf, pair, begun, primary_reads}
 use Rattle.fv_parse_prefixes.proofs.Turns.{Turns, no_turn, one_turn, turn_of, turn_by_test, run_reads}
 use Rattle.fv_parse_grammar.specs.declared.symbol.Operands.{Operands}

@@ -13,7 +13,7 @@ use Rattle.fv_parse_grammar.specs.declared.symbol.Mark.TheVariants as marks
 use Rattle.fv_parse_grammar.specs.Descent.{Step, ◌>>=◌, Turn, Done, turn, run, Reader, power_at, expect, enclosed, plus_number}
 use Rattle.fv_parse_grammar.specs.Descent.{minus_number, postfix, postfix_turn}
 use Rattle.fv_parse_grammar.specs.Descent.{atom_by_head, atom, operand, chain, phrase, left_turn, expression, with_turn}
-use Rattle.fv_parse_grammar.proofs.Loops.{run_next, run_done, run_stop, joined, chain_next, chain_done, chain_stop}
+use Rattle.fv_parse_grammar.proofs.lemmas.Loops.{run_next, run_done, run_stop, joined, chain_next, chain_done, chain_stop}
 use Rattle.fv_parse_prefixes.proofs.Agreement.{Fork, Same, remains, BothRead, also, given, halted, both_test, of_test, of_equal, unrolled, Looks, takes, stays_at}
 use Rattle.fv_parse_prefixes.proofs.Agreement.{looked, looked_among, opens, no_bracket, operator_passing, group_opens, AgreesInside}
 use Rattle.fv_parse_prefixes.proofs.PiecesAgree.{expect_both, by_open_brace, by_close_brace, enclosed_both}

@@ -7,7 +7,7 @@ use Rattle.fv_parse_grammar.specs.declared.symbol.Mark.{Mark}
 use Rattle.fv_parse_grammar.specs.declared.symbol.Mark.TheVariants as marks
 use Rattle.fv_parse_grammar.specs.Symbols.{is_mark}
 use Rattle.fv_parse_grammar.specs.inner.Symbols.{sign}
-use Rattle.fv_parse_grammar.proofs.Tokens.{is_mark_sign}
+use Rattle.fv_parse_grammar.proofs.lemmas.Tokens.{is_mark_sign}
 use Rattle.fv_parse_grammar.specs.declared.symbol.Inside.{Inside}
 use Rattle.fv_parse_grammar.specs.declared.symbol.Inside.TheVariants as insides
 use Rattle.fv_parse_grammar.specs.Symbol.TheVariants.{Integer}

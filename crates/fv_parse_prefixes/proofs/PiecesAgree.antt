@@ -11,11 +11,11 @@ use Rattle.fv_parse_grammar.specs.declared.symbol.Mark.{Mark}
 use Rattle.fv_parse_grammar.specs.declared.symbol.Mark.TheVariants as marks
 use Rattle.fv_parse_grammar.specs.Symbols.{is_mark}
 use Rattle.fv_parse_grammar.specs.inner.Symbols.{sign}
-use Rattle.fv_parse_grammar.proofs.Tokens.{is_mark_sign}
+use Rattle.fv_parse_grammar.proofs.lemmas.Tokens.{is_mark_sign}
 use Rattle.fv_parse_grammar.specs.declared.symbol.Inside.{Inside}
 use Rattle.fv_parse_grammar.specs.declared.symbol.Inside.TheVariants as insides
 use Rattle.fv_parse_grammar.specs.Descent.{Step, Reader, expect, a_name, a_text, at_comma, all_separated, name_list, enclosed, argument, label}
-use Rattle.fv_parse_grammar.proofs.Loops.{separated_step, separated_end, separated_stop, with_first}
+use Rattle.fv_parse_grammar.proofs.lemmas.Loops.{separated_step, separated_end, separated_stop, with_first}
 use Rattle.fv_parse_prefixes.proofs.Agreement.{Fork, Same, remains, BothPass, BothRead, also, given, halted, Looks, takes, stays_at, looked, looked_among, opens}
 use Rattle.fv_parse_prefixes.proofs.Agreement.{opens_brace, closes, closes_brace, no_bracket, AgreesInside, of_test, of_equal}
 

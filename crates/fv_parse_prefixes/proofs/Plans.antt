@@ -14,7 +14,7 @@ use Rattle.fv_parse_grammar.specs.headline.Tree.{Tree}
 use Rattle.fv_parse_grammar.specs.headline.Grammar.{Level, Further, Definition, Expression, Listed, OneRule, Phrase, Postfix, Primary, Atom, SpellsNames, one_name, Spells}
 use Rattle.fv_parse_grammar.specs.headline.Grammar.{no_more, first_rule, first_part, constant, rule, plain, tighter, operand, pattern_operand, bare, named, atom_name}
 use Rattle.fv_parse_grammar.specs.Descent.{Step, ◌>>=◌}
-use Rattle.fv_parse_grammar.proofs.Sound.{level_of}
+use Rattle.fv_parse_grammar.proofs.lemmas.Sound.{level_of}
 use Rattle.fv_parse_grammar.specs.declared.symbol.Operands.{Operands}
 use Rattle.fv_parse_grammar.specs.declared.symbol.Commas.{Commas}
 use Rattle.fv_parse_grammar.specs.declared.symbol.Operands.TheVariants as operands

@@ -1,4 +1,4 @@
-pub mod Arenas
+pub mod lemmas
 pub mod Progress
 pub mod Steps
 pub mod Endings

@@ -3,7 +3,7 @@ use Rattle.std.proofs.Common.{◌≡◌, ℕ, ◌<◌, ◌≤◌, List, [], ◌�
 use Rattle.std.proofs.Common.{arith, append_assoc}
 use Rattle.std.proofs.lemmas.List.{append-nil}
 use Rattle.std.proofs.lemmas.List.Elements.{All-nil, All-push, All-pop}
-use Rattle.fv_base.proofs.Arena.{keeps_refl, keeps_trans}
+use Rattle.fv_base.proofs.lemmas.Arena.{keeps_refl, keeps_trans}
 use Rattle.fv_lex.specs.declared.token.Symbol.{Symbol}
 use Rattle.fv_parse_grammar.specs.declared.form.Operator.{Operator}
 use Rattle.fv_parse_tree.specs.declared.node.TreeId.{TreeId}
@@ -13,11 +13,11 @@ use Rattle.fv_parse_tree.specs.declared.pending.Pending.{Pending}
 use Rattle.fv_parse_grammar.specs.headline.Tree.{Tree, End, Binary}
 use Rattle.fv_parse_grammar.specs.Descent.{Step, ◌>>=◌, Turn, Done, Item, Nothing, run, all_separated, at_comma}
 use Rattle.fv_parse_grammar.specs.Descent.{Stop as Halts, Fault as Refused}
-use Rattle.fv_parse_grammar.proofs.Loops.{run_next, run_done, run_stop, separated_step, separated_end, separated_stop, with_first, before, all_of, many_one, many_skip, many_done}
-use Rattle.fv_parse_grammar.proofs.Loops.{many_stop}
+use Rattle.fv_parse_grammar.proofs.lemmas.Loops.{run_next, run_done, run_stop, separated_step, separated_end, separated_stop, with_first, before, all_of, many_one, many_skip, many_done}
+use Rattle.fv_parse_grammar.proofs.lemmas.Loops.{many_stop}
 use Rattle.fv_parse_tree.specs.Arena.{tree_at, Keeps, forest, AreInside, lean, Joins, AllBelow}
 use Rattle.fv_parse_tree.specs.Gives.{Fails, Found, Turned, Ended, Stays, Itemized, Refuses, list_of, in_front}
-use Rattle.fv_parse_tree.proofs.Arenas.{Under, Waits, forest_append, forest_keeps, below_more, lean_push, lean_keeps, inside_more}
+use Rattle.fv_parse_tree.proofs.lemmas.Arenas.{Under, Waits, forest_append, forest_keeps, below_more, lean_push, lean_keeps, inside_more}
 
 -- an error of a part is the error of the whole
 pub fails_by : {A B : Type 0} (e : Stop) (at : List Symbol) (r : Result A (List Symbol)) (s : Result B (List Symbol))

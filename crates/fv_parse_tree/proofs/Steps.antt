@@ -2,7 +2,7 @@
 use Rattle.std.proofs.Common.{◌≡◌, ℕ, suc, ◌+◌, ◌-◌, ◌<◌, ◌≤◌, true, false, List, [], length, drop, Result, Ok, Err, refl, sym, ap, subst, ◌∙◌, arith}
 use Rattle.std.specs.Prelude.{nat_eq}
 use Rattle.std.proofs.lemmas.Bool.{lt-leb, le-leb}
-use Rattle.fv_base.proofs.Arena.{keeps_trans}
+use Rattle.fv_base.proofs.lemmas.Arena.{keeps_trans}
 use Rattle.fv_lex.specs.declared.token.Symbol.{Symbol}
 use Rattle.fv_parse_grammar.specs.declared.form.Operator.{Operator}
 use Rattle.fv_parse_grammar.specs.declared.symbol.Inside.{Inside}
@@ -14,8 +14,8 @@ use Rattle.fv_parse_grammar.specs.headline.Tree.{Tree, End}
 use Rattle.fv_parse_grammar.specs.headline.Symbols.{is_left}
 use Rattle.fv_parse_grammar.specs.Descent.{Step, ◌>>=◌, run, chain, power_at, operand, phrase, left_turn, descend, within, further, item}
 use Rattle.fv_parse_grammar.specs.Descent.{Reader as Descent}
-use Rattle.fv_parse_grammar.proofs.Complete.{lower}
-use Rattle.fv_parse_grammar.proofs.Loops.{chain_next, chain_done, all_of}
+use Rattle.fv_parse_grammar.proofs.lemmas.Complete.{lower}
+use Rattle.fv_parse_grammar.proofs.lemmas.Loops.{chain_next, chain_done, all_of}
 use Rattle.fv_parse_tree.specs.Arena.{tree_at, trees}
 use Rattle.fv_parse_tree.specs.Gives.{Fails, Gives, Found, Operates, in_front}
 use Rattle.fv_parse_tree.proofs.Progress.{fails_by, by_operator}

@@ -4,7 +4,7 @@ use Rattle.std.proofs.Common.{false, if◌then◌else◌, ℤ, length-append}
 use Rattle.std.specs.Prelude.{slice_set}
 use Rattle.std.proofs.lemmas.List.{length-take-le, length-drop, length-set}
 use Rattle.fv_base.specs.headline.Lists.{table}
-use Rattle.fv_base.proofs.Lists.{length_table}
+use Rattle.fv_base.proofs.lemmas.Lists.{length_table}
 use Rattle.fv_num.specs.declared.op.Op.TheVariants.{Add}
 use Rattle.fv_diagram.specs.declared.node.Primitive.{Primitive as Prim}
 use Rattle.fv_diagram.specs.declared.node.Primitive.TheVariants as prim
@@ -19,9 +19,9 @@ use Rattle.fv_diagram.specs.headline.Streams.{dealt}
 use Rattle.fv_diagram.specs.Wires.{plugged}
 use Rattle.fv_diagram.specs.Hooks.{Hooks, takes}
 use Rattle.fv_diagram.specs.Walked.{walked, primitive, added, summed}
-use Rattle.fv_diagram.proofs.Meaning.{AreOrderly, walk_goes}
-use Rattle.fv_diagram.proofs.Related.{AreRelated, Gives}
-use Rattle.fv_diagram.proofs.Turns.{not_below}
+use Rattle.fv_diagram.proofs.lemmas.Meaning.{AreOrderly, walk_goes}
+use Rattle.fv_diagram.proofs.lemmas.Related.{AreRelated, Gives}
+use Rattle.fv_diagram.proofs.lemmas.Turns.{not_below}
 
 -- ---- lists of related wires
 

@@ -5,7 +5,7 @@ use Rattle.std.specs.Prelude.{slice_set}
 use Rattle.std.proofs.lemmas.Bool.{cases_lt, cases_eq}
 use Rattle.std.proofs.lemmas.List.{length_push, get_or_append_left, length-set, get_or-set_same, get_or-set_other}
 use Rattle.fv_base.specs.headline.Lists.{IsPrefixOf}
-use Rattle.fv_base.proofs.Lists.{prefix_trans}
+use Rattle.fv_base.proofs.lemmas.Lists.{prefix_trans}
 use Rattle.fv_num.specs.declared.op.Op.TheVariants.{Select2}
 use Rattle.fv_signal.specs.declared.signal.Signal.{Signal}
 use Rattle.fv_signal.specs.declared.signal.Signal.TheVariants as signal
@@ -14,11 +14,11 @@ use Rattle.fv_share.specs.Drafts.{with_members}
 use Rattle.fv_diagram.specs.declared.signals.Leaf.{Leaf}
 use Rattle.fv_diagram.specs.declared.signals.Leaf.TheVariants as leaf
 use Rattle.fv_diagram.specs.Hooks.{padded}
-use Rattle.fv_diagram.proofs.Meaning.{AreOrderly}
+use Rattle.fv_diagram.proofs.lemmas.Meaning.{AreOrderly}
 use Rattle.fv_propagate.specs.declared.progress.Feedback.{Feedback}
 use Rattle.fv_propagate.specs.inner.Progress.{Progress, put, puts, passed, grouped, put_mem, put_prefix, leaf_of, opened_of, shut, closed_of, signal_hooks, AreNested}
 use Rattle.fv_propagate.specs.inner.Progress.{counted_of, turned, listed, table_node, tabled_of}
-use Rattle.fv_share.proofs.Puts.{tables_stand}
+use Rattle.fv_share.proofs.lemmas.Puts.{tables_stand}
 use Rattle.fv_propagate.proofs.Puts.{put_keeps, puts_keep, puts_wide, puts_groups, puts_closed, puts_feedbacks, puts_tables, turned_keeps}
 use Rattle.fv_propagate.proofs.Puts.{listed_signals, listed_groups, listed_closed}
 use Rattle.fv_propagate.proofs.Alongside.{HoldBack}

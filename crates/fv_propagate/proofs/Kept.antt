@@ -7,7 +7,7 @@ use Rattle.std.proofs.lemmas.List.Elements.{All-from_get_or}
 use Rattle.fv_signal.specs.declared.signal.Signal.{Signal}
 use Rattle.fv_signal.specs.declared.signal.Signal.TheVariants.{Const, Control, Point, Delay, Back, Member}
 use Rattle.fv_share.specs.Drafts.{Draft, NamesSoFar, CanPut, IsPending, IsShut, BacksWithin, table_in, with_group, with_members}
-use Rattle.fv_share.proofs.Puts.{tables_stand}
+use Rattle.fv_share.proofs.lemmas.Puts.{tables_stand}
 use Rattle.fv_diagram.specs.headline.Diagram.{table_inputs}
 use Rattle.fv_diagram.specs.Diagram.{AreNumbers}
 use Rattle.std.proofs.lemmas.List.Elements.{All-get_or}
@@ -15,14 +15,14 @@ use Rattle.fv_num.specs.declared.op.Op.TheVariants.{Add, Rem, Select2}
 use Rattle.fv_diagram.specs.declared.signals.Leaf.{Leaf}
 use Rattle.fv_diagram.specs.declared.signals.Leaf.TheVariants as leaf
 use Rattle.fv_diagram.specs.Hooks.{padded}
-use Rattle.fv_diagram.proofs.Places.{prefix_long}
+use Rattle.fv_diagram.proofs.lemmas.Places.{prefix_long}
 use Rattle.fv_propagate.specs.declared.progress.Feedback.{Feedback}
 use Rattle.fv_propagate.specs.inner.Progress.{Progress, put, puts, put_mem, put_prefix, passed, grouped, leaf_of, opened_of, shut, closed_of, fed_of, IsThere}
 use Rattle.fv_propagate.specs.inner.Progress.{put_next, given, late_of, turned, counted_of, listed, table_node, tabled_of}
 use Rattle.fv_propagate.specs.inner.Progress.{IsWireOf, IsAdmitted, AreNested, AreOpen, IsProgress}
 use Rattle.fv_propagate.proofs.Puts.{put_there, put_keeps, puts_keep, puts_groups, puts_closed, puts_feedbacks, puts_wide, puts_there}
 use Rattle.fv_propagate.proofs.Puts.{next_keeps, turned_keeps, listed_is, listed_signals}
-use Rattle.fv_share.proofs.Puts.{backs_stay_within}
+use Rattle.fv_share.proofs.lemmas.Puts.{backs_stay_within}
 use Rattle.fv_propagate.proofs.Goes.{filled}
 
 pub wider : (m n : ℕ) (fs : List Feedback) → m ≤ n → AreNested m fs → AreNested n fs

@@ -3,16 +3,16 @@ use Rattle.std.proofs.Common.{◌≡◌, ℕ, zero, suc, ◌+◌, ◌<◌, List,
 use Rattle.std.proofs.lemmas.Bool.{cases_lt}
 use Rattle.std.proofs.lemmas.List.{get_or_push, get_or_append_left}
 use Rattle.fv_base.specs.headline.Lists.{IsPrefixOf}
-use Rattle.fv_base.proofs.Lists.{prefix_refl, prefix_trans, length_snoc}
-use Rattle.fv_diagram.proofs.Places.{prefix_long, prefix_get}
+use Rattle.fv_base.proofs.lemmas.Lists.{prefix_refl, prefix_trans, length_snoc}
+use Rattle.fv_diagram.proofs.lemmas.Places.{prefix_long, prefix_get}
 use Rattle.fv_signal.specs.declared.signal.Signal.{Signal}
 use Rattle.fv_signal.specs.headline.Value.{Graph}
 use Rattle.fv_share.specs.Drafts.{Draft}
-use Rattle.fv_share.proofs.Puts.{put_stands}
+use Rattle.fv_share.proofs.lemmas.Puts.{put_stands}
 use Rattle.fv_signal.specs.declared.signal.Signal.TheVariants.{Const, Point, Back}
 use Rattle.fv_num.specs.declared.op.Op.TheVariants.{Add, Rem}
 use Rattle.fv_diagram.specs.Hooks.{padded}
-use Rattle.fv_share.proofs.Puts.{tables_stand}
+use Rattle.fv_share.proofs.lemmas.Puts.{tables_stand}
 use Rattle.fv_propagate.specs.inner.Progress.{Progress, put, puts, put_next, grouped, late_of, turned, listed}
 
 -- the signal stands at place s of the graph

@@ -5,7 +5,7 @@ use Rattle.std.proofs.lemmas.Int.{ints, clamps}
 use Rattle.std.proofs.lemmas.List.{length_push, length-append, drop-drop, get_or-drop, get_or-map, get_or_push, take-map}
 use Rattle.std.proofs.lemmas.List.Elements.{All-get_or, All-from_get_or}
 use Rattle.fv_base.specs.headline.Lists.{IsPrefixOf}
-use Rattle.fv_base.proofs.Lists.{prefix_trans, length_table, get_or_table}
+use Rattle.fv_base.proofs.lemmas.Lists.{prefix_trans, length_table, get_or_table}
 use Rattle.fv_num.specs.declared.op.Op.{Op}
 use Rattle.fv_num.specs.declared.op.Op.TheVariants.{Add, Rem, Select2}
 use Rattle.fv_num.specs.headline.Words.{argument, apply_of, inputs_of}
@@ -13,7 +13,7 @@ use Rattle.fv_num.specs.headline.Frames.{Frame, Stream, table, delayed, prefixed
 use Rattle.fv_num.specs.Frames.{carries}
 use Rattle.fv_num.specs.headline.Interval.{Interval, IsWithin, IsSpan, full, point, hull, span_at}
 use Rattle.fv_num.specs.headline.Spans.{span_of}
-use Rattle.fv_num.proofs.Closed.{holds, closed}
+use Rattle.fv_num.proofs.lemmas.Closed.{holds, closed}
 use Rattle.fv_signal.specs.declared.signal.Signal.{Signal}
 use Rattle.fv_signal.specs.declared.signal.Signal.TheVariants.{Const, Control, Point, Delay, Back, Member}
 use Rattle.fv_signal.specs.headline.Value.{Graph, clamped, value, IsOrdered}
@@ -21,9 +21,9 @@ use Rattle.fv_diagram.specs.declared.signals.Leaf.{Leaf}
 use Rattle.fv_diagram.specs.declared.signals.Leaf.TheVariants as leaf
 use Rattle.fv_diagram.specs.Hooks.{takes}
 use Rattle.fv_diagram.specs.Hooks.{padded}
-use Rattle.fv_diagram.proofs.Places.{prefix_long, prefix_get, prefix_snoc}
-use Rattle.fv_diagram.proofs.Related.{AreRelated, Gives}
-use Rattle.fv_diagram.proofs.Places.{takes_some}
+use Rattle.fv_diagram.proofs.lemmas.Places.{prefix_long, prefix_get, prefix_snoc}
+use Rattle.fv_diagram.proofs.lemmas.Related.{AreRelated, Gives}
+use Rattle.fv_diagram.proofs.lemmas.Places.{takes_some}
 use Rattle.fv_interval.specs.headline.SpanHooks.{control_span}
 use Rattle.fv_interval.specs.inner.SpanHooks.{Noted, span_hooks}
 use Rattle.fv_interval.specs.headline.Laws.{IsOf}
@@ -41,8 +41,8 @@ use Rattle.fv_diagram.specs.Diagram.{AreNumbers}
 use Rattle.fv_diagram.specs.headline.Streams.{table_at}
 use Rattle.fv_interval.specs.headline.WireSpans.{table_span}
 use Rattle.fv_interval.specs.Laws.{AreOf}
-use Rattle.fv_interval.proofs.Holds.{answers_hold}
-use Rattle.fv_signal.proofs.Fits.{full_of}
+use Rattle.fv_interval.proofs.lemmas.Holds.{answers_hold}
+use Rattle.fv_signal.proofs.lemmas.Fits.{full_of}
 
 -- ---- numbers in spans
 

@@ -4,7 +4,7 @@ use Rattle.std.proofs.Common.{pos, nat_le, ◌%◌, ℤ, Bool, true}
 use Rattle.std.proofs.lemmas.List.{take-map, length-set, length_push, get_or-set_same}
 use Rattle.std.proofs.lemmas.Bool.{cond-true, le-leb}
 use Rattle.std.proofs.lemmas.Int.{ints}
-use Rattle.fv_base.proofs.Lists.{table_same, get_or_table}
+use Rattle.fv_base.proofs.lemmas.Lists.{table_same, get_or_table}
 use Rattle.fv_num.specs.declared.op.Op.{Op}
 use Rattle.fv_num.specs.declared.op.Op.TheVariants.{Add, Rem, Select2}
 use Rattle.fv_num.specs.headline.Words.{apply_of, inputs_of}
@@ -14,27 +14,27 @@ use Rattle.fv_signal.specs.declared.signal.Signal.{Signal}
 use Rattle.fv_signal.specs.declared.signal.Signal.TheVariants as signal
 use Rattle.fv_signal.specs.headline.Value.{Graph, members, table_of, clamped, signal_at, value, IsOrdered}
 use Rattle.fv_num.specs.headline.Tables.{place, read_at, written_at}
-use Rattle.fv_num.proofs.Tables.{last_written_same}
+use Rattle.fv_num.proofs.lemmas.Tables.{last_written_same}
 use Rattle.fv_base.specs.headline.Lists.{IsPrefixOf}
-use Rattle.fv_base.proofs.Lists.{prefix_trans}
+use Rattle.fv_base.proofs.lemmas.Lists.{prefix_trans}
 use Rattle.fv_share.specs.Drafts.{table_in}
-use Rattle.fv_share.proofs.Puts.{tables_stand}
-use Rattle.fv_share.proofs.Kept.{tables_stay}
-use Rattle.fv_diagram.proofs.Counting.{counts_on}
-use Rattle.fv_signal.proofs.Values.{values_are_given}
+use Rattle.fv_share.proofs.lemmas.Puts.{tables_stand}
+use Rattle.fv_share.proofs.lemmas.Kept.{tables_stay}
+use Rattle.fv_diagram.proofs.lemmas.Counting.{counts_on}
+use Rattle.fv_signal.proofs.lemmas.Values.{values_are_given}
 use Rattle.fv_diagram.specs.declared.node.Primitive.{Primitive as Prim}
 use Rattle.fv_diagram.specs.declared.node.Primitive.TheVariants as prim
 use Rattle.fv_diagram.specs.headline.Diagram.{Primitive, Table, primitive_inputs, table_inputs, is_table_primitive}
 use Rattle.fv_diagram.specs.Diagram.{AreNumbers}
 use Rattle.fv_diagram.specs.Walked.{primitive, one}
 use Rattle.fv_diagram.specs.Hooks.{padded}
-use Rattle.fv_diagram.proofs.Causality.{delayed_same, back_same}
-use Rattle.fv_diagram.proofs.Carried.{column_carries}
-use Rattle.fv_diagram.proofs.Places.{table_replicate, carried_items, carried_first}
+use Rattle.fv_diagram.proofs.lemmas.Causality.{delayed_same, back_same}
+use Rattle.fv_diagram.proofs.lemmas.Carried.{column_carries}
+use Rattle.fv_diagram.proofs.lemmas.Places.{table_replicate, carried_items, carried_first}
 use Rattle.std.proofs.Common.{false}
 use Rattle.std.proofs.lemmas.Bool.{true≢false}
-use Rattle.fv_diagram.proofs.Meaning.{Means, AreSound}
-use Rattle.fv_diagram.proofs.Places.{takes_some}
+use Rattle.fv_diagram.proofs.lemmas.Meaning.{Means, AreSound}
+use Rattle.fv_diagram.proofs.lemmas.Places.{takes_some}
 use Rattle.fv_propagate.specs.declared.progress.Feedback.{Feedback}
 use Rattle.fv_propagate.specs.inner.Progress.{Progress, put, puts, passed, put_mem, put_prefix, put_delay, opened_of, shut, closed_of, signal_hooks}
 use Rattle.fv_propagate.specs.inner.Progress.{AreNested, grouped, put_next, late_of, turned, counted_of, listed, tabled_of}

@@ -6,7 +6,7 @@ use Rattle.std.proofs.lemmas.Int.{ints}
 use Rattle.std.proofs.lemmas.List.{get_or_default, get_or_past, get_or-map}
 use Rattle.std.proofs.lemmas.List.Elements.{All-get_or, All-from_get_or}
 use Rattle.fv_base.specs.headline.Lists.{IsPrefixOf}
-use Rattle.fv_base.proofs.Lists.{prefix_refl, length_table, table_same, table_items, get_or_table}
+use Rattle.fv_base.proofs.lemmas.Lists.{prefix_refl, length_table, table_same, table_items, get_or_table}
 use Rattle.fv_num.specs.headline.Frames.{Frame, Stream, frame_at, column, table, carried}
 use Rattle.fv_num.specs.Frames.{carries}
 use Rattle.fv_num.specs.headline.Interval.{Interval, IsSpan, full, point}
@@ -21,17 +21,17 @@ use Rattle.fv_diagram.specs.headline.Streams.{run}
 use Rattle.fv_diagram.specs.Wires.{Wired}
 use Rattle.fv_diagram.specs.Wires.{no_slots}
 use Rattle.fv_diagram.specs.Walked.{walked}
-use Rattle.fv_diagram.proofs.Causality.{run_closed}
-use Rattle.fv_diagram.proofs.Carried.{wired_answers, column_carries}
-use Rattle.fv_diagram.proofs.Places.{prefix_long, carried_items}
-use Rattle.fv_diagram.proofs.Meaning.{walk_goes, walk_means}
-use Rattle.fv_diagram.proofs.Related.{AreRelated}
+use Rattle.fv_diagram.proofs.lemmas.Causality.{run_closed}
+use Rattle.fv_diagram.proofs.lemmas.Carried.{wired_answers, column_carries}
+use Rattle.fv_diagram.proofs.lemmas.Places.{prefix_long, carried_items}
+use Rattle.fv_diagram.proofs.lemmas.Meaning.{walk_goes, walk_means}
+use Rattle.fv_diagram.proofs.lemmas.Related.{AreRelated}
 use Rattle.fv_interval.specs.headline.SpanHooks.{control_span}
 use Rattle.fv_interval.specs.inner.SpanHooks.{Noted, span_hooks}
 use Rattle.fv_interval.specs.headline.Laws.{IsOf}
 use Rattle.fv_interval.specs.headline.Delays.{delays_of}
 use Rattle.fv_interval.specs.Delays.{AreAccepted}
-use Rattle.fv_interval.proofs.Refused.{delays_are}
+use Rattle.fv_interval.proofs.lemmas.Refused.{delays_are}
 use Rattle.fv_propagate.specs.inner.Progress.{Progress, puts, unstarted, started, signal_hooks, IsThere}
 use Rattle.fv_propagate.specs.headline.Propagated.{Propagates, HasControl, NamesOf, NamesWithin}
 use Rattle.fv_propagate.specs.Propagated.{DelaysStayWithin, AreShort}
@@ -40,8 +40,8 @@ use Rattle.fv_propagate.proofs.Puts.{put_there, puts_at, puts_wide, puts_groups,
 use Rattle.fv_propagate.proofs.Kept.{puts_all_there}
 use Rattle.fv_propagate.proofs.Goes.{IsGood, Onward, GoesOn, on_same_groups, stays_good, signals_are_orderly, signals_hold_back}
 use Rattle.fv_propagate.proofs.Sound.{AreWide, node_is, signals_are_sound}
-use Rattle.fv_propagate.proofs.Named.{still, Any, IsNamed, AreNamed, named_put, named_puts, names_keep, leaves_had, lists_had}
-use Rattle.fv_signal.proofs.Fits.{full_of, values_fit}
+use Rattle.fv_propagate.proofs.lemmas.Named.{still, Any, IsNamed, AreNamed, named_put, named_puts, names_keep, leaves_had, lists_had}
+use Rattle.fv_signal.proofs.lemmas.Fits.{full_of, values_fit}
 use Rattle.fv_propagate.proofs.Ranged.{LiesIn, AreRanged, Beside, ranged_put, ranged_puts, not_clamped, spans_keep}
 
 of_fits : (s : Interval) (z : ℤ) → IsOf s z → FitsSigned w32 z

@@ -7,7 +7,7 @@ use Rattle.fv_graph.specs.Graph.{Graph}
 use Rattle.fv_graph.specs.Wires.{Wires}
 use Rattle.std.specs.Global.{Vec}
 use Rattle.fv_graph.specs.Graph.{inward, outward}
-use Rattle.fv_graph.proofs.Counts.{bit_right, bit_same, bit_apart}
+use Rattle.fv_graph.proofs.lemmas.Counts.{bit_right, bit_same, bit_apart}
 use Rattle.fv_graph.specs.TasksBeside.{times}
 use mathlib.Core.Logic.{dite}
 use native.Mathlib.Decide.{ℕ_discrete}
@@ -15,8 +15,8 @@ use Rattle.fv_ready_rule.specs.Wired.{graph_wires}
 use Rattle.fv_ready_rule.specs.Rule.{places}
 use Rattle.fv_ready_rule.specs.Carried.{IsFree, IsBusy}
 use Rattle.fv_ready.specs.declared.seat.InHand.{InHand}
-use Rattle.fv_ready_rule.proofs.Numbers.{long_numbers}
-use Rattle.fv_ready_rule.proofs.Splits.{splits}
+use Rattle.fv_ready_rule.proofs.lemmas.Numbers.{long_numbers}
+use Rattle.fv_ready_rule.proofs.lemmas.Splits.{splits}
 use Rattle.fv_graph.specs.Words.{passing}
 use Rattle.fv_ready_rule.specs.declared.About.{About}
 use Rattle.fv_ready_rule.specs.declared.View.{View}

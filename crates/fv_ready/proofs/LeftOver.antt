@@ -9,8 +9,8 @@ use Rattle.fv_graph.specs.TasksBeside.{times}
 use Rattle.fv_graph.specs.Net.{Net, IsNet, need_count}
 use Rattle.fv_graph.specs.TasksBeside.{task_count}
 use Rattle.fv_graph.specs.Graph.{Graph, IsGraph, net_of}
-use Rattle.fv_graph.proofs.Graphs.{is_wires}
-use Rattle.fv_graph.proofs.Counts.{bit_same, bit_apart, bit_one, bit_true, bit_false, bit_left, both_true}
+use Rattle.fv_graph.proofs.lemmas.Graphs.{is_wires}
+use Rattle.fv_graph.proofs.lemmas.Counts.{bit_same, bit_apart, bit_one, bit_true, bit_false, bit_left, both_true}
 use Rattle.fv_ready_rule.specs.declared.Deed.{Deed}
 use Rattle.fv_ready_rule.specs.declared.Deed.TheVariants.{Stamped, Arrived, Saw, Claimed}
 use Rattle.fv_ready_rule.specs.declared.About.{About}

@@ -1,6 +1,5 @@
 pub mod Found
-pub mod Seated
-pub mod Moving
+pub mod lemmas
 pub mod Dealing
 pub mod Laying
 pub mod Emptying

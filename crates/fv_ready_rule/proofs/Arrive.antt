@@ -9,8 +9,8 @@ use Rattle.atomic_table.specs.Table.{State}
 use Rattle.atomic_table.proofs.Lists.{at_set, set_here, set_else}
 use Rattle.fv_graph.specs.Tasks.{bit, total}
 use Rattle.fv_graph.specs.TasksBeside.{times}
-use Rattle.fv_graph.proofs.Counts.{bit_same, bit_swap, bit_apart, bit_le, total_append, total_add, get_set, spare}
-use Rattle.fv_graph.proofs.Counts.{bit_left}
+use Rattle.fv_graph.proofs.lemmas.Counts.{bit_same, bit_swap, bit_apart, bit_le, total_append, total_add, get_set, spare}
+use Rattle.fv_graph.proofs.lemmas.Counts.{bit_left}
 use Rattle.fv_graph.specs.Wires.{Wires, IsWires}
 use Rattle.fv_graph.specs.Graph.{Graph}
 use Rattle.fv_ready_rule.specs.declared.Deed.TheVariants.{Arrived}
@@ -18,7 +18,7 @@ use Rattle.fv_ready_rule.specs.declared.About.{About}
 use Rattle.fv_ready_rule.specs.declared.View.{View}
 use Rattle.fv_ready_rule.specs.Rule.{count_word, claim_word, wins, loses, sees, arrives, stamps, starts, finishes, done_by, all, noted, IsSpent, IsOwn, Fits}
 use Rattle.fv_ready_rule.specs.Rule.{IsKept}
-use Rattle.fv_ready_rule.proofs.Claim.{all_noted, all_at, total_ext}
+use Rattle.fv_ready_rule.proofs.lemmas.Claim.{all_noted, all_at, total_ext}
 use Rattle.fv_ready_rule.proofs.Back.{all_gap}
 
 pub one_less : (n : ℕ) → 0 < n → n < 18446744073709551616 → (n + (2 ^ 64 - 1)) % 2 ^ 64 ≡ n - 1

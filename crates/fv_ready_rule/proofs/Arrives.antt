@@ -12,9 +12,9 @@ use Rattle.fv_graph.specs.Net.{Net, IsNet}
 use Rattle.fv_graph_core.specs.Core.{Now, owes_of, count_of}
 use Rattle.fv_graph_core.specs.Lean.{is_lean_legal, lean_after}
 use Rattle.fv_graph_core.specs.declared.event.Event.TheVariants.{Arrive}
-use Rattle.fv_graph.proofs.Counts.{bit_same, bit_apart, total_append, get_set}
-use Rattle.fv_graph_core.proofs.EndsLemmas.{times_without}
-use Rattle.fv_graph.proofs.Counts.{bit_left}
+use Rattle.fv_graph.proofs.lemmas.Counts.{bit_same, bit_apart, total_append, get_set}
+use Rattle.fv_graph_core.proofs.lemmas.EndsLemmas.{times_without}
+use Rattle.fv_graph.proofs.lemmas.Counts.{bit_left}
 use Rattle.fv_ready_rule.specs.declared.Deed.{Deed}
 use Rattle.fv_ready_rule.specs.declared.Deed.TheVariants.{Arrived}
 use Rattle.fv_ready_rule.specs.declared.View.{View}

@@ -14,10 +14,10 @@ use Rattle.fv_ready_rule.specs.declared.Deed.{Deed}
 use Rattle.fv_ready_rule.specs.declared.About.{About}
 use Rattle.fv_ready_rule.specs.declared.View.{View}
 use Rattle.fv_ready_rule.specs.Rule.{wins, arrives, finishes, done_by, all, IsKept}
-use Rattle.fv_ready_rule.proofs.Claim.{all_at, into, out_of, inner_in, no_exit, sent}
+use Rattle.fv_ready_rule.proofs.lemmas.Claim.{all_at, into, out_of, inner_in, no_exit, sent}
 use Rattle.fv_ready_rule.specs.Rule.{places, Each}
 use Rattle.fv_ready_rule.specs.Carried.{IsMine, HasKey}
-use Rattle.fv_ready_rule.proofs.Taking.{each_at, give_all, others_stay, length_gives, home_then}
+use Rattle.fv_ready_rule.proofs.lemmas.Taking.{each_at, give_all, others_stay, length_gives, home_then}
 
 rest_le : {C : Type 0} (f g : Deed → ℕ) (views : List (View C)) → ((j : ℕ) (u : View C) → get_elem? views j ≡ some u → done_by f u ≤
     done_by g u) → all f views ≤ all g views

@@ -12,9 +12,9 @@ use Rattle.fv_ready_rule.specs.declared.View.{View}
 use Rattle.fv_ready_rule.specs.Rule.{noted, going, Ends}
 use Rattle.fv_ready_rule.specs.Carried.{IsBusy}
 use Rattle.fv_ready_rule.specs.Whole.{IsWhole}
-use Rattle.fv_ready_rule.proofs.Numbers.{one_more}
-use Rattle.fv_ready_rule.proofs.Taking.{give_all, front_valid, front_left}
-use Rattle.fv_ready_rule.proofs.Starting.{stamps_above}
+use Rattle.fv_ready_rule.proofs.lemmas.Numbers.{one_more}
+use Rattle.fv_ready_rule.proofs.lemmas.Taking.{give_all, front_valid, front_left}
+use Rattle.fv_ready_rule.proofs.lemmas.Starting.{stamps_above}
 use Rattle.fv_ready_rule.proofs.Finishing.{Exits, whole_finished, small}
 
 drop_all : {S : Type 0} (xs ys : List (ℕ × S)) → drop (length xs) (xs ++ ys) ≡ ys

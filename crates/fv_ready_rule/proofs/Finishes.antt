@@ -13,8 +13,8 @@ use Rattle.fv_graph.specs.Net.{Net, IsNet}
 use Rattle.fv_graph_core.specs.Core.{Now, is_run, run_of, owes_of, is_done}
 use Rattle.fv_graph_core.specs.Lean.{is_lean_legal, lean_after}
 use Rattle.fv_graph_core.specs.declared.event.Event.TheVariants.{Finish}
-use Rattle.fv_graph.proofs.Counts.{bit_same, bit_apart, bit_one, bit_true, bit_swap, total_append, total_set, get_set, done_set}
-use Rattle.fv_graph.proofs.Counts.{bit_right, bit_false}
+use Rattle.fv_graph.proofs.lemmas.Counts.{bit_same, bit_apart, bit_one, bit_true, bit_swap, total_append, total_set, get_set, done_set}
+use Rattle.fv_graph.proofs.lemmas.Counts.{bit_right, bit_false}
 use Rattle.fv_ready_rule.specs.declared.Deed.{Deed}
 use Rattle.fv_ready_rule.specs.declared.Deed.TheVariants.{Stamped}
 use Rattle.fv_ready_rule.specs.declared.View.{View}

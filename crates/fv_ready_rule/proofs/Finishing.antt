@@ -15,12 +15,12 @@ use Rattle.fv_ready_rule.specs.Rule.{wins, finishes, done_by, all, noted, places
 use Rattle.fv_ready_rule.specs.Carried.{IsBusy, IsMine, HasKey}
 use Rattle.fv_ready_rule.specs.Whole.{IsWhole}
 use Rattle.fv_ready_rule.proofs.Back.{all_gap}
-use Rattle.fv_ready_rule.proofs.Taking.{give_all, front_homes, given_at}
-use Rattle.fv_ready_rule.proofs.Hands.{busy_mine, busy_won, each_left}
-use Rattle.fv_ready_rule.proofs.Closing.{given}
+use Rattle.fv_ready_rule.proofs.lemmas.Taking.{give_all, front_homes, given_at}
+use Rattle.fv_ready_rule.proofs.lemmas.Hands.{busy_mine, busy_won, each_left}
+use Rattle.fv_ready_rule.proofs.lemmas.Closing.{given}
 use Rattle.fv_ready_rule.proofs.Stamps.{whole_stamped}
-use Rattle.fv_ready_rule.proofs.Numbers.{behind}
-use Rattle.fv_ready_rule.proofs.Starting.{stamp_room}
+use Rattle.fv_ready_rule.proofs.lemmas.Numbers.{behind}
+use Rattle.fv_ready_rule.proofs.lemmas.Starting.{stamp_room}
 use Rattle.fv_ready_rule.proofs.WholeSteps.{reached_finish}
 
 -- the exit edge's slot among those that go back: full, with its parcel

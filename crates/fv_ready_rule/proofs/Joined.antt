@@ -7,7 +7,7 @@ use Rattle.atomic_table.proofs.Lists.{at_set}
 use Rattle.fv_graph.specs.Tasks.{bit}
 use Rattle.fv_graph.specs.TasksBeside.{times}
 use Rattle.fv_graph.specs.Net.{Net}
-use Rattle.fv_graph.proofs.Counts.{total_append}
+use Rattle.fv_graph.proofs.lemmas.Counts.{total_append}
 use Rattle.fv_graph.specs.Wires.{Wires}
 use Rattle.fv_graph.specs.Graph.{Graph}
 use Rattle.fv_ready_rule.specs.declared.Deed.{Deed}
@@ -15,8 +15,8 @@ use Rattle.fv_ready_rule.specs.declared.About.{About}
 use Rattle.fv_ready_rule.specs.declared.View.{View}
 use Rattle.fv_ready_rule.specs.Rule.{wins, sees, arrives, starts, finishes, done_by, all, together, spent, IsSpent, IsOwn, IsKept}
 use Rattle.fv_ready_rule.specs.Whole.{all_having}
-use Rattle.fv_ready_rule.proofs.Claim.{all_set}
-use Rattle.fv_ready_rule.proofs.Splits.{sum_set}
+use Rattle.fv_ready_rule.proofs.lemmas.Claim.{all_set}
+use Rattle.fv_ready_rule.proofs.lemmas.Splits.{sum_set}
 use Rattle.fv_ready_rule.proofs.Regrouped.{kept_so}
 
 one_of : (a b : ℕ) → 0 < a + b → (0 < a) ⊎ (0 < b)

@@ -14,8 +14,8 @@ use Rattle.fv_ready_rule.specs.declared.About.{About}
 use Rattle.fv_ready_rule.specs.declared.View.{View}
 use Rattle.fv_ready_rule.specs.Rule.{count_word, wins, finishes, all, noted}
 use Rattle.fv_ready_rule.specs.Shown.{worker_of, ShowsSeat, IsIdle, Shows}
-use Rattle.fv_ready_rule.proofs.Claim.{all_noted}
-use Rattle.fv_ready_rule.proofs.Taking.{at_below}
+use Rattle.fv_ready_rule.proofs.lemmas.Claim.{all_noted}
+use Rattle.fv_ready_rule.proofs.lemmas.Taking.{at_below}
 
 module _ {C S : Type 0} (n : Net) (workers : ℕ) (s : State S (View C)) (z : Now) (h : Shows {C = C} {S = S} n workers s z) (id : ℕ) (v : View C)
     (d : Deed) (at : get_elem? s.views id ≡ some v) where

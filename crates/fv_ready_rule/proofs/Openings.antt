@@ -8,17 +8,17 @@ use Rattle.fv_graph.specs.Tasks.{bit, total}
 use Rattle.fv_graph.specs.TasksBeside.{times}
 use Rattle.fv_graph.specs.Net.{Net, need_count}
 use Rattle.fv_graph.specs.Graph.{net_of}
-use Rattle.fv_graph.proofs.Counts.{bit_true, bit_le, total_none}
+use Rattle.fv_graph.proofs.lemmas.Counts.{bit_true, bit_le, total_none}
 use Rattle.fv_graph_core.specs.Core.{is_run, opening}
-use Rattle.fv_graph_core.proofs.Opens.{get_same, get_in, length_same, length_numbers, get_numbers, total_same}
+use Rattle.fv_graph_core.proofs.lemmas.Opens.{get_same, get_in, length_same, length_numbers, get_numbers, total_same}
 use Rattle.fv_ready_rule.specs.declared.Deed.{Deed}
 use Rattle.fv_ready_rule.specs.declared.About.{About}
 use Rattle.fv_ready_rule.specs.declared.View.{View}
 use Rattle.fv_ready_rule.specs.Rule.{arrives, finishes, wins, all}
 use Rattle.fv_ready_rule.specs.Shown.{worker_of, IsIdle}
 use Rattle.fv_ready_rule.specs.Steps.{Meets, ShowsNow, OpeningLaw}
-use Rattle.fv_ready_rule.proofs.Claim.{total_ext}
-use Rattle.fv_ready_rule.proofs.Splits.{sum_at, has_first, seat_idle, apart_of}
+use Rattle.fv_ready_rule.proofs.lemmas.Claim.{total_ext}
+use Rattle.fv_ready_rule.proofs.lemmas.Splits.{sum_at, has_first, seat_idle, apart_of}
 
 all_none : {C : Type 0} (f : Deed → ℕ) (views : List (View C)) → ((id : ℕ) (v : View C) → get_elem? views id ≡ some v → v.deeds ≡ []) → all f views ≡ 0
 all_none f [] none' = refl

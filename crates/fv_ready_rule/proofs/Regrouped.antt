@@ -15,7 +15,7 @@ use Rattle.fv_ready_rule.specs.declared.View.{View}
 use Rattle.fv_ready_rule.specs.Rule.{count_word, wins, loses, sees, arrives, stamps, starts, finishes, all, IsSpent, IsOwn, IsKept, zeroes}
 use Rattle.fv_ready_rule.specs.Shown.{Reached}
 use Rattle.fv_ready_rule.specs.Whole.{starts_at, finishes_at, all_having, AllKnow, IsWhole}
-use Rattle.fv_ready_rule.proofs.Claim.{total_ext}
+use Rattle.fv_ready_rule.proofs.lemmas.Claim.{total_ext}
 
 module _ {C Key : Type 0} (wires : Graph → Wires) (edge_of : C → ℕ) (key_of : C → Key) (a : About C) (s : State (Option C) (View C)) where
   abbrev net : Net

@@ -12,8 +12,8 @@ use Rattle.fv_graph_core.specs.Core.{Now, is_run, run_of, owes_of, is_done, coun
 use Rattle.fv_graph_core.specs.Lean.{is_taken, is_lean_legal, lean_after, lean_replayed}
 use Rattle.fv_graph_core.specs.declared.event.Event.{Event}
 use Rattle.fv_graph_core.specs.declared.event.Event.TheVariants.{Take}
-use Rattle.fv_graph.proofs.Counts.{bit_same, total_set, total_append, get_set}
-use Rattle.fv_graph.proofs.Counts.{bit_false}
+use Rattle.fv_graph.proofs.lemmas.Counts.{bit_same, total_set, total_append, get_set}
+use Rattle.fv_graph.proofs.lemmas.Counts.{bit_false}
 use Rattle.fv_ready_rule.specs.declared.Deed.TheVariants.{Claimed}
 use Rattle.fv_ready_rule.specs.declared.View.{View}
 use Rattle.fv_ready_rule.specs.Rule.{count_word, wins, arrives, finishes, done_by, all, noted}

@@ -14,9 +14,9 @@ use Rattle.fv_graph.specs.TasksBeside.{times}
 use Rattle.fv_graph.specs.Net.{Net}
 use Rattle.fv_graph.specs.Graph.{Graph}
 use Rattle.fv_graph_core.specs.Core.{numbers}
-use Rattle.fv_graph.proofs.Counts.{bit_same, bit_apart, bit_one, bit_true, total_append, total_add, get_set, full}
-use Rattle.fv_graph.proofs.Counts.{times_passing}
-use Rattle.fv_graph.proofs.Counts.{bit_right}
+use Rattle.fv_graph.proofs.lemmas.Counts.{bit_same, bit_apart, bit_one, bit_true, total_append, total_add, get_set, full}
+use Rattle.fv_graph.proofs.lemmas.Counts.{times_passing}
+use Rattle.fv_graph.proofs.lemmas.Counts.{bit_right}
 use Rattle.fv_graph.specs.Wires.{Wires, IsWires}
 use Rattle.fv_ready_rule.specs.declared.Deed.{Deed}
 use Rattle.fv_ready_rule.specs.declared.Deed.TheVariants.{Stamped, Arrived, Saw, Claimed}
@@ -27,9 +27,9 @@ use Rattle.fv_ready_rule.specs.Rule.{IsKept, zeroes}
 use Rattle.fv_ready_rule.specs.Shown.{Reached}
 use Rattle.fv_ready_rule.specs.Whole.{starts_at, finishes_at, IsWhole}
 use Rattle.fv_ready_rule.proofs.Noted.{known_before}
-use Rattle.fv_ready_rule.proofs.Claim.{all_noted, all_at, total_ext}
+use Rattle.fv_ready_rule.proofs.lemmas.Claim.{all_noted, all_at, total_ext}
 use Rattle.fv_ready_rule.proofs.Back.{all_gap}
-use Rattle.fv_ready_rule.proofs.Begins.{not_below}
+use Rattle.fv_ready_rule.proofs.lemmas.Begins.{not_below}
 
 -- numbers below the next number
 below_next : (j k : ℕ) → bit (ltb j (k + 1)) ≡ bit (ltb j k) + bit (k == j)
@@ -211,7 +211,7 @@ module _ {C Key : Type 0} (wires : Graph → Wires) (edge_of : C → ℕ) (key_o
       s') → IsWhole wires edge_of key_of a s'
   whole_stamped reached = record {
     kept = kept_after;
-    numbered = λ j. (let r = Rattle.fv_ready_rule.proofs.Splits.sum_set (λ (y : View C). times j y.numbers) s.views id v (noted v d) at in
+    numbered = λ j. (let r = Rattle.fv_ready_rule.proofs.lemmas.Splits.sum_set (λ (y : View C). times j y.numbers) s.views id v (noted v d) at in
         let z : total (λ (y : View C). times j y.numbers) views' ≡ total (λ (y : View C). times j y.numbers) s.views = omega arith in z) ∙ h.numbered j;
     has_one = each (λ y. y.board ≡ Some a → 0 < length y.numbers) (h.has_one id v at) h.has_one;
     in_order = λ boards. let o = h.in_order (known_before a s.views id v d at ab boards) in each (λ y. IsStrictlyIncreasing y.numbers) (o id v at) o;

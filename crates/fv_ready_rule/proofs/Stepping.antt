@@ -12,8 +12,8 @@ use Rattle.fv_graph.specs.TasksBeside.{task_count}
 use Rattle.fv_graph.specs.Net.{Net}
 use Rattle.fv_graph.specs.Graph.{IsGraph, net_of, edges_of}
 use Rattle.fv_graph.specs.Wires.{IsWires}
-use Rattle.fv_graph.proofs.Graphs.{is_wires}
-use Rattle.fv_graph.proofs.Counts.{bit_same, bit_apart, bit_one, get_set}
+use Rattle.fv_graph.proofs.lemmas.Graphs.{is_wires}
+use Rattle.fv_graph.proofs.lemmas.Counts.{bit_same, bit_apart, bit_one, get_set}
 use Rattle.fv_graph_core.specs.Core.{Now}
 use Rattle.fv_graph_core.specs.Lean.{lean_after}
 use Rattle.fv_graph_core.specs.declared.event.Event.TheVariants.{Take, Finish, Arrive}
@@ -28,23 +28,23 @@ use Rattle.fv_ready_rule.specs.Carried.{IsFree, IsBusy, AreHanded, IsMine, HasKe
 use Rattle.fv_ready_rule.specs.Steps.{ShowsNow, Changes, cut_at, joined_at, AreAsBefore, Meets, Steps, StepLaw}
 use Rattle.fv_ready_rule.specs.Whole.{AllKnow}
 use Rattle.atomic_table.proofs.Lists.{set_else, set_again}
-use Rattle.fv_ready_rule.proofs.Splits.{all_cut, had_cut, each_cut, whole_cut, shows_cut}
+use Rattle.fv_ready_rule.proofs.lemmas.Splits.{all_cut, had_cut, each_cut, whole_cut, shows_cut}
 use Rattle.fv_ready_rule.proofs.Joined.{all_joined, had_joined}
-use Rattle.fv_ready_rule.proofs.Closing.{whole_joins, gives_back}
-use Rattle.fv_ready_rule.proofs.Claim.{tell, all_at}
+use Rattle.fv_ready_rule.proofs.lemmas.Closing.{whole_joins, gives_back}
+use Rattle.fv_ready_rule.proofs.lemmas.Claim.{tell, all_at}
 use Rattle.fv_ready_rule.proofs.Back.{all_gap}
-use Rattle.fv_ready_rule.proofs.Claims.{claims_whole}
+use Rattle.fv_ready_rule.proofs.lemmas.Claims.{claims_whole}
 use Rattle.fv_ready_rule.proofs.Shows.{IsTake, may_take, shows_taken}
 use Rattle.fv_ready_rule.proofs.Finishes.{IsFinish, shows_same, shows_finished, may_finish}
 use Rattle.fv_ready_rule.proofs.Arrives.{IsArrival, shows_arrived, may_arrive}
 use Rattle.fv_ready_rule.proofs.WholeSteps.{shows_words}
-use Rattle.fv_ready_rule.proofs.Load.{looks}
-use Rattle.fv_ready_rule.proofs.Starting.{starting}
-use Rattle.fv_ready_rule.proofs.Numbers.{behind}
+use Rattle.fv_ready_rule.proofs.lemmas.Load.{looks}
+use Rattle.fv_ready_rule.proofs.lemmas.Starting.{starting}
+use Rattle.fv_ready_rule.proofs.lemmas.Numbers.{behind}
 use Rattle.fv_ready_rule.proofs.Arrive.{one_less}
-use Rattle.fv_ready_rule.proofs.Arriving.{arriving}
-use Rattle.fv_ready_rule.proofs.Leaving.{leads, parts, leaving, dropped}
-use Rattle.fv_ready_rule.proofs.Hands.{free_owes, free_mine, claim_busy, busy_won, busy_mine, exchange_busy, is_owed, finish_free}
+use Rattle.fv_ready_rule.proofs.lemmas.Arriving.{arriving}
+use Rattle.fv_ready_rule.proofs.lemmas.Leaving.{leads, parts, leaving, dropped}
+use Rattle.fv_ready_rule.proofs.lemmas.Hands.{free_owes, free_mine, claim_busy, busy_won, busy_mine, exchange_busy, is_owed, finish_free}
 
 module _ {C Key : Type 0} (edge_of : C → ℕ) (key_of : C → Key) (a : About C) (graph : IsGraph a.tasks.value.tasks)
     (few : task_count a.tasks.value.tasks < 2 ^ 62) (id : ℕ) (v : View C) (c : List (ℕ × Option C)) (ab : v.board ≡ Some a) where

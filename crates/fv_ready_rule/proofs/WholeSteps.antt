@@ -15,8 +15,8 @@ use Rattle.fv_graph.specs.Graph.{Graph}
 use Rattle.fv_graph_core.specs.Core.{Now, numbers, opening}
 use Rattle.fv_graph_core.specs.Lean.{lean_after}
 use Rattle.fv_graph_core.specs.declared.event.Event.TheVariants.{Finish, Arrive}
-use Rattle.fv_graph.proofs.Counts.{bit_same, bit_apart}
-use Rattle.fv_graph.proofs.Counts.{bit_right}
+use Rattle.fv_graph.proofs.lemmas.Counts.{bit_same, bit_apart}
+use Rattle.fv_graph.proofs.lemmas.Counts.{bit_right}
 use Rattle.fv_graph.specs.Wires.{Wires}
 use Rattle.fv_ready_rule.specs.declared.Deed.{Deed}
 use Rattle.fv_ready_rule.specs.declared.Deed.TheVariants.{Stamped, Arrived, Saw, Claimed}
@@ -26,8 +26,8 @@ use Rattle.fv_ready_rule.specs.Rule.{count_word, wins, arrives, starts, finishes
 use Rattle.fv_ready_rule.specs.Shown.{worker_of, Shows, Reached, OwesNothing}
 use Rattle.fv_ready_rule.specs.Whole.{starts_at, finishes_at, IsWhole}
 use Rattle.fv_ready_rule.proofs.Noted.{known_before}
-use Rattle.fv_ready_rule.proofs.Claim.{all_noted, all_at, total_ext}
-use Rattle.fv_ready_rule.proofs.Splits.{sum_set}
+use Rattle.fv_ready_rule.proofs.lemmas.Claim.{all_noted, all_at, total_ext}
+use Rattle.fv_ready_rule.proofs.lemmas.Splits.{sum_set}
 use Rattle.fv_ready_rule.proofs.Regrouped.{whole_steady}
 use Rattle.fv_ready_rule.proofs.Shows.{lean_more, reached_claim}
 use Rattle.fv_ready_rule.proofs.Finishes.{IsFinish, shows_same, shows_finished, may_finish}

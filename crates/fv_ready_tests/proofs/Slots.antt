@@ -6,7 +6,7 @@ use native.Mathlib.Decide.{ℕ_discrete}
 use Rattle.fv_outside.specs.headline.Tasks.{Tasks, bit}
 use Rattle.fv_outside.specs.Tasks.{times}
 use Rattle.fv_graph.specs.Graph.{inward, outward}
-use Rattle.fv_graph.proofs.Counts.{bit_same, bit_apart, total_append}
+use Rattle.fv_graph.proofs.lemmas.Counts.{bit_same, bit_apart, total_append}
 use Rattle.fv_ready.specs.Deed.{Deed}
 use Rattle.fv_ready.specs.Deed.TheVariants.{Saw}
 use Rattle.fv_ready.specs.View.{View}

@@ -16,7 +16,7 @@ use Rattle.fv_parse_grammar.specs.declared.form.Operator.TheVariants as operator
 use Rattle.fv_parse_grammar.specs.declared.form.Side.{Side}
 use Rattle.fv_parse_grammar.specs.declared.form.Side.TheVariants as sides
 use Rattle.fv_diagram.specs.Op.TheVariants as op
-use Rattle.fv_diagram.proofs.Composed.{composed_is_well}
+use Rattle.fv_diagram.proofs.lemmas.Composed.{composed_is_well}
 use Rattle.fv_diagram.specs.declared.node.Primitive.TheVariants as prim
 use Rattle.fv_diagram.specs.headline.Diagram.{Diagram, Primitive, Constant, Control, Slot, Bind, Par, Seq, Split, Merge, Rec, has_table_primitive}
 use Rattle.fv_diagram.specs.declared.control.ControlInfo.{ControlInfo}

@@ -26,7 +26,7 @@ use Rattle.fv_arity.specs.declared.refusal.ArityKind.TheVariants as kind
 use Rattle.fv_rules.specs.headline.Values.{Flat}
 use Rattle.fv_rules.specs.headline.Steps.{State, Outcome, Eval, after, give, refuse, is_multiple, unless, or_else, misfit, sized, put_after, put_as, put}
 use Rattle.fv_diagram_head.specs.headline.Heads.{parts, cut, is_fixed, is_head, table_numbers}
-use Rattle.fv_diagram_head.proofs.Outputs.{cut_outputs, parts_outputs}
+use Rattle.fv_diagram_head.proofs.lemmas.Outputs.{cut_outputs, parts_outputs}
 use Rattle.fv_rules.specs.headline.Steps.{side_by_side, table_size, grow, table_limit, tabled_by, tabled, waved}
 use Rattle.fv_rules.specs.declared.refusal.EvalRefusal.TheVariants.{TableForm, TableBudget}
 use Rattle.fv_rules.specs.declared.refusal.TableCause.TheVariants as cause

@@ -1,4 +1,2 @@
 pub mod Same
-pub mod Puts
-pub mod Kept
-pub mod Groups
+pub mod lemmas

@@ -6,20 +6,20 @@ use Rattle.std.proofs.lemmas.Bool.{cases_lt}
 use Rattle.std.proofs.lemmas.List.{get_or_append_left, get_or_push, get_or_past, length_push, length-append, append_assoc}
 use Rattle.std.proofs.lemmas.List.Elements.{All-head, All-tail, All-get_or, All-from_get_or, All-map}
 use Rattle.fv_base.specs.headline.Lists.{IsPrefixOf}
-use Rattle.fv_base.proofs.Lists.{prefix_refl, prefix_trans}
+use Rattle.fv_base.proofs.lemmas.Lists.{prefix_refl, prefix_trans}
 use Rattle.fv_num.specs.declared.op.Op.{Op}
 use Rattle.fv_num.specs.headline.Words.{apply_of, inputs_of}
 use Rattle.fv_signal.specs.declared.signal.Signal.{Signal}
 use Rattle.fv_signal.specs.declared.signal.Signal.TheVariants.{Input, Const, Control, Point, Delay, Back, Member, Read, Write}
 use Rattle.fv_signal.specs.headline.Value.{Graph, definition, OperandsBelow, IsOrdered, IsGraph}
 use Rattle.fv_share.specs.Drafts.{Draft, put}
-use Rattle.fv_share.proofs.Puts.{put_stands}
+use Rattle.fv_share.proofs.lemmas.Puts.{put_stands}
 use Rattle.fv_simplify_rules.specs.Choices.{choice}
 use Rattle.fv_simplify_rules.specs.Nodes.{node, number_at, known, numbers}
 use Rattle.fv_simplify_rules.specs.Rebuilt.{back_by, base, IsPointImage, IsDelayImage, IsImage, IsMarked}
 use Rattle.fv_simplify.specs.Passing.{HasWidth, so_far, is_zero, put_late, late, delayed_by, chosen, folded, image_of}
 use Rattle.fv_simplify.specs.Runs.{Pass, step, steps}
-use Rattle.fv_simplify_rules.proofs.Origins.{Taken, Itself, Over, base_cases}
+use Rattle.fv_simplify_rules.proofs.lemmas.Origins.{Taken, Itself, Over, base_cases}
 use Rattle.fv_simplify.proofs.Images.{image_is, put_at}
 
 map_alike : (k : ℕ) (p q : ℕ → ℕ) (args : List ℕ) → All (λ a. a < k) args → ((a : ℕ) → a < k → p a ≡ q a) → map p args ≡ map q args

@@ -7,13 +7,13 @@ use Rattle.std.proofs.lemmas.Bool.{cases_lt}
 use Rattle.std.proofs.lemmas.List.{length_push, get_or_push, get_or_append_left, length-append, length-map, length-take, map_push}
 use Rattle.std.proofs.lemmas.List.Elements.{All-get_or, All-from_get_or, All-map, All-take}
 use Rattle.fv_base.specs.headline.Lists.{table}
-use Rattle.fv_base.proofs.Lists.{length_table, get_or_table}
+use Rattle.fv_base.proofs.lemmas.Lists.{length_table, get_or_table}
 use Rattle.fv_signal.specs.declared.signal.Signal.{Signal}
 use Rattle.fv_signal.specs.declared.signal.Signal.TheVariants.{Const}
 use Rattle.fv_signal.specs.headline.Value.{Graph, members, definition, IsGraph}
 use Rattle.fv_share.specs.Drafts.{AreClosed, AreShut, BacksWithin, CanClose, graph_of, lists_in, with_groups, with_tables, with_all_members}
-use Rattle.fv_share.proofs.Groups.{groups_stay}
-use Rattle.fv_share.proofs.Puts.{put_stands}
+use Rattle.fv_share.proofs.lemmas.Groups.{groups_stay}
+use Rattle.fv_share.proofs.lemmas.Puts.{put_stands}
 use Rattle.fv_simplify_rules.specs.Rebuilt.{IsMarked, IsRebuilt}
 use Rattle.fv_simplify.specs.Runs.{Pass, step, steps, definitions, nothing, begun, passed, rebuilt, AreGood}
 use Rattle.fv_simplify.proofs.Along.{steps_grow, steps_long}

@@ -10,7 +10,7 @@ use Rattle.fv_signal.specs.declared.signal.Signal.{Signal}
 use Rattle.fv_signal.specs.declared.signal.Signal.TheVariants.{Input, Const, Control, Point, Delay, Back, Member, Read, Write}
 use Rattle.fv_signal.specs.headline.Value.{Graph, definition}
 use Rattle.fv_share.specs.Drafts.{Draft, put, IsPut}
-use Rattle.fv_share.proofs.Puts.{put_stands}
+use Rattle.fv_share.proofs.lemmas.Puts.{put_stands}
 use Rattle.fv_simplify_rules.specs.Choices.{choice}
 use Rattle.fv_simplify_rules.specs.Nodes.{node, number_at, known, numbers}
 use Rattle.fv_simplify_rules.specs.Rebuilt.{back_by, base, IsMarked}

@@ -10,8 +10,8 @@ use Rattle.fv_signal.specs.declared.signal.Signal.{Signal}
 use Rattle.fv_signal.specs.declared.signal.Signal.TheVariants.{Input, Const, Control, Point, Delay, Back, Member, Read, Write}
 use Rattle.fv_signal.specs.headline.Value.{Graph}
 use Rattle.fv_share.specs.Drafts.{Draft, IsDraft, IsPending, BacksWithin, put, with_groups, with_tables}
-use Rattle.fv_share.proofs.Puts.{backs_stay_within}
-use Rattle.fv_share.proofs.Groups.{groups_stay}
+use Rattle.fv_share.proofs.lemmas.Puts.{backs_stay_within}
+use Rattle.fv_share.proofs.lemmas.Groups.{groups_stay}
 use Rattle.fv_simplify_rules.specs.Choices.{choice}
 use Rattle.fv_simplify_rules.specs.Nodes.{number_at, known, numbers}
 use Rattle.fv_simplify_rules.specs.Rebuilt.{back_by, base, IsMarked}

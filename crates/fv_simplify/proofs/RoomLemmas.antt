@@ -13,7 +13,7 @@ use Rattle.fv_simplify_rules.specs.Nodes.{node, StandsAt, number_at}
 use Rattle.fv_simplify_rules.specs.Rebuilt.{IsMarked, IsRoom}
 use Rattle.fv_simplify.specs.Passing.{room_in}
 use Rattle.fv_simplify.specs.inner.Rooms.{room_with, rooms_after}
-use Rattle.fv_simplify_rules.proofs.Origins.{number_node}
+use Rattle.fv_simplify_rules.proofs.lemmas.Origins.{number_node}
 
 -- a marked signal before place n
 abbrev pub Before : List Bool → (n s : ℕ) → Type 0

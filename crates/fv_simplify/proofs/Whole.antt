@@ -4,14 +4,14 @@ use Rattle.std.proofs.Common.{pos, Bool}
 use Rattle.std.specs.Prelude.{Option}
 use Rattle.std.proofs.lemmas.List.{get_or-map, get_or-take, length-take}
 use Rattle.fv_base.specs.headline.Lists.{IsPrefixOf}
-use Rattle.fv_base.proofs.Lists.{prefix_refl}
+use Rattle.fv_base.proofs.lemmas.Lists.{prefix_refl}
 use Rattle.fv_signal.specs.declared.signal.Signal.{Signal}
 use Rattle.fv_signal.specs.declared.signal.Signal.TheVariants.{Const, Back}
 use Rattle.fv_signal.specs.headline.Value.{Graph, members, definition, IsGraph}
-use Rattle.fv_base.proofs.Lists.{length_table, get_or_table}
+use Rattle.fv_base.proofs.lemmas.Lists.{length_table, get_or_table}
 use Rattle.fv_share.specs.Drafts.{Draft, with_groups, with_tables, with_members, with_all_members, AreShut}
-use Rattle.fv_share.proofs.Groups.{groups_stay}
-use Rattle.fv_share.proofs.Puts.{put_stands}
+use Rattle.fv_share.proofs.lemmas.Groups.{groups_stay}
+use Rattle.fv_share.proofs.lemmas.Puts.{put_stands}
 use Rattle.fv_simplify_rules.specs.Nodes.{node}
 use Rattle.fv_simplify_rules.specs.Rebuilt.{IsImage, IsMarked, IsRebuilt}
 use Rattle.fv_simplify.specs.Passing.{so_far}

@@ -13,7 +13,7 @@ use Rattle.fv_simplify_rules.specs.Nodes.{node, number, known, numbers}
 use Rattle.fv_simplify_rules.specs.Reducible.{IsSelector, IsDelayedBy, IsTakenOver, IsReducible, OnNumbers, ByNeutral, ByAbsorbing, BySelector, ByNothing}
 use Rattle.fv_simplify_rules.specs.Reducible.{OfNothing, Loose, OfDelay}
 use Rattle.fv_simplify_rules.specs.Rebuilt.{IsRebuilt}
-use Rattle.fv_simplify_rules.proofs.Origins.{Origin, OfNumber, OfInput, OfControl, OfBack, OfRead, OfWrite, OfPoint, OfLate, OfVarying, origin, tight}
+use Rattle.fv_simplify_rules.proofs.lemmas.Origins.{Origin, OfNumber, OfInput, OfControl, OfBack, OfRead, OfWrite, OfPoint, OfLate, OfVarying, origin, tight}
 
 -- ---- an operation that no number decides
 

@@ -1,9 +1,4 @@
-pub mod Choices
+pub mod lemmas
 pub mod Values
-pub mod Origins
 pub mod Stays
 pub mod Irreducible
-pub mod Totals
-pub mod Reaches
-pub mod Chains
-pub mod Twice

@@ -13,16 +13,16 @@ use Rattle.fv_signal.specs.declared.signal.Signal.{Signal}
 use Rattle.fv_signal.specs.declared.signal.Signal.TheVariants.{Input, Const, Control, Point, Delay, Back, Member, Read, Write}
 use Rattle.fv_num.specs.headline.Tables.{read_at, written_at}
 use Rattle.fv_signal.specs.headline.Value.{Graph, clamped, signal_at, value, OperandsBelow, HasNumber, IsGraph}
-use Rattle.fv_signal.proofs.Values.{back_same, values_are_given}
+use Rattle.fv_signal.proofs.lemmas.Values.{back_same, values_are_given}
 use Rattle.fv_simplify_rules.specs.Choices.{Agrees}
 use Rattle.fv_simplify_rules.specs.Nodes.{node, number_at, known, before, numbers}
 use Rattle.fv_simplify_rules.specs.Reducible.{AreSmall}
 use Rattle.fv_simplify_rules.specs.Rebuilt.{back_by, base, AsNumber, AsOperand, AsItself, IsDelayImage, AtOnce, LateNothing, Late, Nothing, Varying, IsImage}
 use Rattle.fv_simplify_rules.specs.Rebuilt.{IsRebuilt}
-use Rattle.fv_simplify_rules.proofs.Choices.{choice_is, choice_within}
-use Rattle.fv_signal.proofs.Solutions.{agree}
-use Rattle.fv_signal.proofs.Fits.{values_fit}
-use Rattle.fv_simplify_rules.proofs.Origins.{number_node, arg_on, delay_on, tight, Taken, Itself, Over, base_cases}
+use Rattle.fv_simplify_rules.proofs.lemmas.Choices.{choice_is, choice_within}
+use Rattle.fv_signal.proofs.lemmas.Solutions.{agree}
+use Rattle.fv_signal.proofs.lemmas.Fits.{values_fit}
+use Rattle.fv_simplify_rules.proofs.lemmas.Origins.{number_node, arg_on, delay_on, tight, Taken, Itself, Over, base_cases}
 
 -- how far a delay goes back is a natural number
 pub clamped_is : (most : ℕ) (c : ℤ) → clamped most c ≡ pos (back_by most c)

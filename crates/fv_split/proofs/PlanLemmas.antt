@@ -7,7 +7,7 @@ use Rattle.std.proofs.lemmas.Bool.{cases_lt, le-ltb}
 use Rattle.std.proofs.lemmas.List.{get_or_default, length-map}
 use Rattle.std.proofs.lemmas.List.Elements.{All-from_get_or, All-nil}
 use Rattle.std.proofs.lemmas.Option.{slice_get_past}
-use Rattle.fv_base.proofs.Lists.{get_or_table, table_items, map_table}
+use Rattle.fv_base.proofs.lemmas.Lists.{get_or_table, table_items, map_table}
 use Rattle.fv_signal.specs.Frames.{table}
 use Rattle.fv_outside.specs.declared.tasks.Reads.{Reads}
 use Rattle.fv_outside.specs.headline.Tasks.{bit, total, reads_loop}
@@ -19,7 +19,7 @@ use Rattle.fv_loopcode.specs.declared.step.Step.TheVariants as step
 use Rattle.fv_loopcode.specs.declared.counts.Counts.{Counts}
 use Rattle.fv_loopcode.specs.headline.State.{list_at}
 use Rattle.fv_loopcode.specs.headline.Code.{registers_after, NamesHeld, NamesInput, IsStill}
-use Rattle.fv_loopcode.specs.Code.{NamesThere, AreSound, IsSound}
+use Rattle.fv_loopcode.specs.Code.{NamesThere, AreValid, IsValid}
 use Rattle.fv_loopcode.specs.headline.Obeys.{Place, OfLane, OfCells, nothing}
 use Rattle.fv_analysis.specs.headline.Stands.{stand, stands_of}
 use Rattle.fv_analysis.specs.headline.History.{history_of}
@@ -33,13 +33,13 @@ use Rattle.fv_split_plan.specs.headline.View.{PlanView, lane_info, cells_info, c
 use Rattle.fv_split_plan.specs.Rows.{plan_with}
 use Rattle.fv_split_plan.specs.headline.Plans.{LanesStand, LoopsStand, CellsStand, tables_alone, PlanStands, PlanReads, PlanNames, NamesChannel}
 use Rattle.fv_split_plan.specs.headline.Plans.{LoadsWithin, IsPlanOf}
-use Rattle.fv_split_plan.proofs.FitsLemmas.{codes_obey, map_get}
-use Rattle.fv_split_plan.proofs.NodeLemmas.{listed}
+use Rattle.fv_split_plan.proofs.lemmas.FitsLemmas.{codes_obey, map_get}
+use Rattle.fv_split_plan.proofs.lemmas.NodeLemmas.{listed}
 use Rattle.fv_split_lanes.specs.declared.lanes.Lanes.{Lanes}
 use Rattle.fv_split_code.specs.declared.kind.Kind.{Kind}
 use Rattle.fv_split_code.specs.Emitted.{steps_of, code_in, AreCodes}
 use Rattle.fv_split_code.specs.Held.{ReadsWithin, HoldsUpTo}
-use Rattle.fv_split_code.proofs.LoadLemmas.{fits_loaded, loads_may, held_counted, inputs_named, loads_within, code_sound}
+use Rattle.fv_split_code.proofs.lemmas.LoadLemmas.{fits_loaded, loads_may, held_counted, inputs_named, loads_within, code_valid}
 use Rattle.fv_split.specs.inner.Lists.{AreInfos, AreCoded, lane_of}
 use Rattle.fv_split.specs.declared.cells.Cells.{Cells}
 use Rattle.fv_split.specs.inner.Cells.{AreOf}
@@ -119,18 +119,18 @@ module _ (g : Graph) (p : Lanes) (stands : Vec ℕ Global) (bases kinds : Vec Ki
   lanes_there : (j l : ℕ) → (lower_loaded owners infos_of_cells j).loaded l ≡ true → l < length owners
   lanes_there j l e = (may_load owners infos_of_cells j l e).within
 
-  sound_code : (j : ℕ) → j < p.loops → AreSound counts (code_in codes j)
-  sound_code j l i d m =
+  valid_code : (j : ℕ) → j < p.loops → AreValid counts (code_in codes j)
+  valid_code j l i d m =
       let z : 0 + i ≡ i = omega arith in
-      subst (λ k. IsSound k counts (get_or (code_in codes j) i d)) z
-      (code_sound g names (lower_loaded owners infos_of_cells j) counts (λ k e. (in_loop owners j k e).within) (lanes_there j) (listed g.tables)
+      subst (λ k. IsValid k counts (get_or (code_in codes j) i d)) z
+      (code_valid g names (lower_loaded owners infos_of_cells j) counts (λ k e. (in_loop owners j k e).within) (lanes_there j) (listed g.tables)
       (λ k e. (cells_in_loop infos_of_cells j k e).within) nothing [] (code_in codes j) (fits j l) i d m)
 
-  pub all_sound : (j : ℕ) → AreSound counts (code_in codes j)
-  all_sound = each_code (AreSound counts) (λ i d m. absurd (omega arith)) sound_code
+  pub all_valid : (j : ℕ) → AreValid counts (code_in codes j)
+  all_valid = each_code (AreValid counts) (λ i d m. absurd (omega arith)) valid_code
 
   pub all_named : (j : ℕ) → All (LoadsAmong (length owners)) (code_in codes j)
-  all_named j k d m = loads_among counts (get_or (code_in codes j) k d) (all_sound j k d m).0
+  all_named j k d m = loads_among counts (get_or (code_in codes j) k d) (all_valid j k d m).0
 
   pub all_owned : All (λ j. j < length codes) owners
   all_owned = All-from_get_or (λ j. j < length codes) owners 0 (λ l m. let b =
@@ -311,15 +311,15 @@ module _ (g : Graph) (p : Lanes) (stands : Vec ℕ Global) (bases kinds : Vec Ki
     told : IsTold (LoopReads owners codes (length codes)) (length codes) (length codes) (reads_of_loops owners codes (length codes))
     told = all_told owners codes all_owned all_named (length codes)
 
-    reads_sound : (j i : ℕ) → reads_loop reads j i ≡ true → LoopReads owners codes (length codes) j i
-    reads_sound j i e = told.sound j i (sym (ap (λ rs. reads_loop rs j i) is_told) ∙ e)
+    reads_valid : (j i : ℕ) → reads_loop reads j i ≡ true → LoopReads owners codes (length codes) j i
+    reads_valid j i e = told.valid j i (sym (ap (λ rs. reads_loop rs j i) is_told) ∙ e)
 
     reads_once : (j i : ℕ) → total (λ r. bit ((r.reader == j) && (r.source == i))) reads ≤ 1
     reads_once j i = subst (λ rs. total (λ r. bit ((r.reader == j) && (r.source == i))) rs ≤ 1) (sym is_told) (told.once j i)
 
     reads_low : (j i : ℕ) → reads_loop reads j i ≡ true → (i < j) × (j < p.loops)
     reads_low j i e =
-        let k = reads_sound j i e in
+        let k = reads_valid j i e in
         let m = loaded_low j k.loads.lane k.loads.loads in
         let w = m.1.lower in
         (lower_than k.other (omega (arith, w, k.loads.owner)), m.0)
@@ -342,7 +342,7 @@ module _ (g : Graph) (p : Lanes) (stands : Vec ℕ Global) (bases kinds : Vec Ki
         to : (j i : ℕ) →
             reads_loop reads j i ≡ true → (i ≢ j) × (l : ℕ) × (l < length infos) × ((roles_of plan j).loaded l ≡ true) × ((lane_info plan l).owner ≡ i)
         to j i e =
-            let k = reads_sound j i e in
+            let k = reads_valid j i e in
             let w = (loaded_low j k.loads.lane k.loads.loads).1.within in
             let m : k.loads.lane < length signals = omega (arith, w, owned) in (
               k.other,

@@ -4,16 +4,16 @@ use Rattle.std.specs.Prelude.{Option}
 use Rattle.std.proofs.lemmas.List.Elements.{All-from_get_or, All-weaker}
 use Rattle.fv_signal.specs.headline.Value.{Graph, IsGraph}
 use Rattle.fv_signal.specs.headline.Rates.{rate_in, rate_at, rates}
-use Rattle.fv_signal.proofs.Grown.{length_grown}
+use Rattle.fv_signal.proofs.lemmas.Grown.{length_grown}
 use Rattle.fv_loopcode.specs.declared.step.Step.{Step}
 use Rattle.fv_loopcode.specs.declared.step.Step.TheVariants as step
 use Rattle.fv_loopcode.specs.headline.Code.{IsStill}
-use Rattle.fv_loopcode.specs.Code.{AreSound, NamesThere}
+use Rattle.fv_loopcode.specs.Code.{AreValid, NamesThere}
 use Rattle.fv_analysis.specs.headline.Stands.{stands_of}
-use Rattle.fv_analysis.proofs.StandLemmas.{stands_long}
+use Rattle.fv_analysis.proofs.lemmas.StandLemmas.{stands_long}
 use Rattle.fv_split_lanes.specs.declared.lanes.Lanes.{Lanes}
 use Rattle.fv_split_lanes.specs.Placed.{ArePlaced}
-use Rattle.fv_split_plan.proofs.NodeLemmas.{listed}
+use Rattle.fv_split_plan.proofs.lemmas.NodeLemmas.{listed}
 use Rattle.fv_split_code.specs.Held.{ReadsWithin, HoldsUpTo}
 
 pub rates_long : (g : Graph) → length (rates g.signals) ≡ length g.signals
@@ -47,7 +47,7 @@ still_there g (step.Append lane value) h r = absurd h
 still_there g (step.Read table arg) h r = listed g.tables table r
 still_there g (step.Write cells args) h r = absurd h
 
--- the code of the held values is sound over no lanes and cells, and the graph's tables
-pub held_sound : (g : Graph) (s : ℕ) (numbers : List ℕ) (steps : List Step) → HoldsUpTo g s numbers steps →
-    AreSound (record { lanes = 0; tables = length g.tables; cells = 0 }) steps
-held_sound g s numbers steps h i d l = (still_there g (get_or steps i d) (h.held_code.still i d l) (h.reads i d l), h.ordered i d l)
+-- the code of the held values is valid over no lanes and cells, and the graph's tables
+pub held_valid : (g : Graph) (s : ℕ) (numbers : List ℕ) (steps : List Step) → HoldsUpTo g s numbers steps →
+    AreValid (record { lanes = 0; tables = length g.tables; cells = 0 }) steps
+held_valid g s numbers steps h i d l = (still_there g (get_or steps i d) (h.held_code.still i d l) (h.reads i d l), h.ordered i d l)

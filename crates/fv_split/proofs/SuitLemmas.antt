@@ -11,16 +11,16 @@ use Rattle.fv_signal.specs.declared.rate.Rate.{Rate}
 use Rattle.fv_signal.specs.declared.rate.Rate.TheVariants as rate
 use Rattle.fv_signal.specs.headline.Value.{Graph, definition, value, signal_at, IsGraph, IsOrdered, OperandsBelow, NamesWithin}
 use Rattle.fv_signal.specs.headline.Rates.{rate_in, rate_of, rates}
-use Rattle.fv_signal.proofs.Rates.{rate_is}
-use Rattle.fv_signal.proofs.Values.{values_are_given}
+use Rattle.fv_signal.proofs.lemmas.Rates.{rate_is}
+use Rattle.fv_signal.proofs.lemmas.Values.{values_are_given}
 use Rattle.fv_split_components.specs.headline.Reach.{at, Reaches}
-use Rattle.fv_split_components.proofs.Walks.{reaches_self, reaches_trans}
+use Rattle.fv_split_components.proofs.lemmas.Walks.{reaches_self, reaches_trans}
 use Rattle.fv_loopcode.specs.declared.step.Step.{Step}
 use Rattle.fv_loopcode.specs.headline.Obeys.{Roles, Place, OfLane, OfCells}
 use Rattle.fv_analysis.specs.headline.Stands.{node, stand, stands_of, StandsAt}
 use Rattle.fv_analysis.specs.headline.History.{history_of, history_from, greatest_delay, is_fed_back}
-use Rattle.fv_analysis.proofs.StandLemmas.{IsNoMember, stands_well, stands_long as all_stand}
-use Rattle.fv_analysis.proofs.HistoryLemmas.{histories_cover}
+use Rattle.fv_analysis.proofs.lemmas.StandLemmas.{IsNoMember, stands_well, stands_long as all_stand}
+use Rattle.fv_analysis.proofs.lemmas.HistoryLemmas.{histories_cover}
 use Rattle.fv_split_plan.specs.headline.Separated.{operands, links_of, IsComputed, IsSeparated, AsOutput, AsDelayed, AsDefinition, AsShared, AsWritten}
 use Rattle.fv_split_plan.specs.headline.Separated.{ReadsSignal}
 use Rattle.fv_split_plan.specs.declared.lane.CellsInfo.{CellsInfo}
@@ -29,7 +29,7 @@ use Rattle.fv_split_plan.specs.headline.Fits.{Names}
 use Rattle.fv_split_plan.specs.Fits.{IsAlways}
 use Rattle.fv_split_lanes.specs.declared.lanes.Lanes.{Lanes}
 use Rattle.fv_split_lanes.specs.Placed.{ArePlaced, IsInner}
-use Rattle.fv_split_lanes.proofs.RowLemmas.{operand_below, reads_reach, back_reaches, read_lower}
+use Rattle.fv_split_lanes.proofs.lemmas.RowLemmas.{operand_below, reads_reach, back_reaches, read_lower}
 use Rattle.fv_split_code.specs.declared.kind.Kind.{Kind}
 use Rattle.fv_split_code.specs.declared.kind.Kind.TheVariants as kind
 use Rattle.fv_split_code.specs.declared.survey.Survey.{Survey}

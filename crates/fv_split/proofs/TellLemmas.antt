@@ -68,7 +68,7 @@ told_at (r ∷ rs) (suc k) d l = ap (λ b. is_pair (get_or rs k d).reader (get_o
 -- just the pairs with P are told, each once, and of loop j, which is told last, each loop knows whether it reads it
 pub record IsTold (P : ℕ → ℕ → Type 0) (j loops : ℕ) (t : ReadsSoFar) : Type 0 where
   pub long : length t.last ≡ loops
-  pub sound : (r i : ℕ) → reads_loop t.reads r i ≡ true → P r i
+  pub valid : (r i : ℕ) → reads_loop t.reads r i ≡ true → P r i
   pub all : (r i : ℕ) → P r i → reads_loop t.reads r i ≡ true
   pub once : (r i : ℕ) → total (λ x. bit (is_pair r i x)) t.reads ≤ 1
   pub marks : (i : ℕ) → was_told (lane_at t.last i) j ≡ true → reads_loop t.reads j i ≡ true
@@ -80,7 +80,7 @@ same_told : (P Q : ℕ → ℕ → Type 0) (j loops : ℕ) (t : ReadsSoFar) →
     ((r i : ℕ) → P r i → Q r i) → ((r i : ℕ) → Q r i → P r i) → IsTold P j loops t → IsTold Q j loops t
 same_told P Q j loops t f h k = record {
   long = k.long;
-  sound = λ r i e. f r i (k.sound r i e);
+  valid = λ r i e. f r i (k.valid r i e);
   all = λ r i q. k.all r i (h r i q);
   once = k.once;
   marks = k.marks;
@@ -97,7 +97,7 @@ module _ (P : ℕ → ℕ → Type 0) (j i loops : ℕ) (t : ReadsSoFar) (h : Is
   known : (i ≢ j → reads_loop t.reads j i ≡ true) → IsTold (WithSource P j i) j loops t
   known told = record {
     long = h.long;
-    sound = λ r k e. inl (h.sound r k e);
+    valid = λ r k e. inl (h.valid r k e);
     all = λ r k q. elim q [
       | inl y ↦ h.all r k y
       | inr y ↦ ap₂ (reads_loop t.reads) y.0 y.1 ∙ told y.2
@@ -118,8 +118,8 @@ module _ (P : ℕ → ℕ → Type 0) (j i loops : ℕ) (t : ReadsSoFar) (h : Is
   told_now : i ≢ j → was_told (lane_at t.last i) j ≡ false → IsTold (WithSource P j i) j loops more
   told_now d unmarked = record {
     long = length-set t.last i (Some j) ∙ h.long;
-    sound = λ r k e. elim (or_cases (reads_loop t.reads r k) (is_pair r k pair) (sym (reads_push t.reads pair r k) ∙ e)) [
-      | inl y ↦ inl (h.sound r k y)
+    valid = λ r k e. elim (or_cases (reads_loop t.reads r k) (is_pair r k pair) (sym (reads_push t.reads pair r k) ∙ e)) [
+      | inl y ↦ inl (h.valid r k y)
       | inr y ↦ inr (is_reader r k y, is_source r k y, d)
     ];
     all = λ r k q. reads_push t.reads pair r k ∙ elim q [
@@ -305,7 +305,7 @@ module _ (owners : List ℕ) (codes : List (Vec Step Global)) (owned : All (λ k
   nothing : IsTold (LoopReads owners codes 0) 0 loops (reads_of_loops owners codes 0)
   nothing = record {
     long = length-replicate loops None;
-    sound = λ r i e. absurd (let z : false ≡ true = e in cc);
+    valid = λ r i e. absurd (let z : false ≡ true = e in cc);
     all = λ r i q. absurd (let b = q.below in omega arith);
     once = λ r i. omega arith;
     marks = λ i e. absurd (let z = sym (ap (λ o. was_told o 0) (none loops i)) ∙ e in cc);
@@ -322,11 +322,11 @@ module _ (owners : List ℕ) (codes : List (Vec Step Global)) (owned : All (λ k
   next : (P : ℕ → ℕ → Type 0) (j : ℕ) (t : ReadsSoFar) → ((r i : ℕ) → P r i → r ≤ j) → IsTold P j loops t → IsTold P (suc j) loops t
   next P j t low h = record {
     long = h.long;
-    sound = h.sound;
+    valid = h.valid;
     all = h.all;
     once = h.once;
     marks = λ i e. absurd (none i (lane_at t.last i) refl e);
-    marked = λ i e. absurd (let z = low (suc j) i (h.sound (suc j) i e) in omega arith);
+    marked = λ i e. absurd (let z = low (suc j) i (h.valid (suc j) i e) in omega arith);
     before = λ i r e. let z = h.before i r e in omega arith;
   }
     where

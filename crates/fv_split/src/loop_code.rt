@@ -1,7 +1,7 @@
 // The code of each loop from its steps.
 
 ghost use Rattle.std.specs.Prelude.{◌≡◌, ◌<◌, ◌≤◌, ℕ, length, IfOk};
-ghost use Rattle.fv_loopcode.specs.Code.{AreSound};
+ghost use Rattle.fv_loopcode.specs.Code.{AreValid};
 ghost use Rattle.fv_split_code.specs.Emitted.{code_in};
 ghost use Rattle.fv_split.specs.inner.Lists.{AreCoded};
 
@@ -9,9 +9,9 @@ use fv_loopcode::{Counts, Step};
 use fv_loopcode_machine::Code;
 use std::alloc::{AllocError, Global};
 
-/// The code of sound steps.
+/// The code of valid steps.
 pub(crate) fn code(alloc: Global, steps: &[Step], counts: Counts) -> Result<Code, AllocError>
-    requires { AreSound counts steps.now }
+    requires { AreValid counts steps.now }
     ensures { IfOk result (λ code. code ≡ steps.now) }
 {
     match Code::new(alloc, steps, counts)? {
@@ -27,7 +27,7 @@ pub(crate) fn all_code(
     codes: Vec<Vec<Step>>,
     counts: Counts,
 ) -> Result<Vec<Code>, AllocError>
-    requires { (j : ℕ) → AreSound counts (code_in codes.items j) }
+    requires { (j : ℕ) → AreValid counts (code_in codes.items j) }
     ensures { IfOk result (λ all. AreCoded codes.items (length codes.items) all.items) }
 {
     let mut all = Vec::with_capacity(alloc, codes.len())?;

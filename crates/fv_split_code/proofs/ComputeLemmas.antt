@@ -21,12 +21,12 @@ use Rattle.fv_analysis.specs.headline.Stands.{node, stand, StandsAt}
 use Rattle.fv_split_plan.specs.headline.Fits.{Names}
 use Rattle.fv_split_plan.specs.Fits.{Mean, Value, mean_at, OfDelay, OfPoint, OfStill, StepFits}
 use Rattle.fv_split_code.specs.Emits.{Serves, KindFits, IsKnown, IsLoaded, kind_of, owned_by, MeansNow, MeanNow, AreFound}
-use Rattle.fv_analysis.proofs.StandLemmas.{stands_well}
+use Rattle.fv_analysis.proofs.lemmas.StandLemmas.{stands_well}
 use Rattle.fv_split_code.proofs.StepLemmas.{serves_push, means_last, long_means}
 use Rattle.fv_split_code.specs.declared.survey.Survey.{Survey}
 use Rattle.fv_split_plan.specs.headline.Separated.{operands}
 use Rattle.fv_split_plan.specs.Separated.{IsWritten, lane_at, cells_at}
-use Rattle.fv_split_plan.proofs.FitsLemmas.{map_get}
+use Rattle.fv_split_plan.proofs.lemmas.FitsLemmas.{map_get}
 use Rattle.fv_split_code.specs.Emitted.{IsSurvey, known_at, IsOperand, Suits, StoodNow, with_cells, write_of, ComputesAt, ComputesNow}
 
 -- what a signal stands for is no higher

@@ -16,8 +16,8 @@ use Rattle.fv_signal.specs.declared.rate.Rate.{Rate}
 use Rattle.fv_signal.specs.declared.rate.Rate.TheVariants as rate
 use Rattle.fv_signal.specs.headline.Value.{Graph, table_of, value, signal_at, IsGraph, OperandsBelow, NamesWithin}
 use Rattle.fv_signal.specs.headline.Rates.{faster, fastest, rate_in, rate_of, NamesControl}
-use Rattle.fv_signal.proofs.Rates.{rate_is}
-use Rattle.fv_signal.proofs.Values.{values_are_given}
+use Rattle.fv_signal.proofs.lemmas.Rates.{rate_is}
+use Rattle.fv_signal.proofs.lemmas.Values.{values_are_given}
 use Rattle.fv_split_plan.specs.Reach.{at}
 use Rattle.fv_loopcode.specs.declared.step.Step.{Step}
 use Rattle.fv_loopcode.specs.declared.step.Step.TheVariants as step
@@ -26,7 +26,7 @@ use Rattle.fv_loopcode.specs.headline.Code.{Pass, passed, stepped, opening, step
 use Rattle.fv_loopcode.specs.Code.{AreOrdered, IsWhole}
 use Rattle.fv_loopcode.specs.Code.{OperandsBelow as StepOperandsBelow}
 use Rattle.fv_analysis.specs.headline.Stands.{node, StandsAt}
-use Rattle.fv_split_plan.proofs.FitsLemmas.{map_take, map_map, map_get}
+use Rattle.fv_split_plan.proofs.lemmas.FitsLemmas.{map_take, map_map, map_get}
 use Rattle.fv_split_code.proofs.ComputeLemmas.{some_inputs}
 use Rattle.fv_split_plan.specs.headline.Plans.{tables_alone}
 use Rattle.fv_split_code.specs.Held.{held_registers, ReadsWithin, HoldsUpTo, IsSteady, StepIs, HoldsNow, HoldsIf}

@@ -1,5 +1,4 @@
 pub mod StepLemmas
 pub mod ComputeLemmas
-pub mod AddLemmas
-pub mod LoadLemmas
+pub mod lemmas
 pub mod HoldLemmas

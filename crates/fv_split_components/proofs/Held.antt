@@ -3,7 +3,7 @@ use Rattle.std.proofs.Common.{inl, inr, ℕ, ◌-◌, ◌<◌, ◌≤◌, length
 use Rattle.std.proofs.lemmas.Bool.{cases_lt, cases_eq}
 use Rattle.fv_split_components.specs.headline.Reach.{Links, at, Reaches}
 use Rattle.fv_split_components.specs.inner.Search.{State, class, IsStacked, IsReaching, IsHeld}
-use Rattle.fv_split_components.proofs.Walks.{reaches_trans}
+use Rattle.fv_split_components.proofs.lemmas.Walks.{reaches_trans}
 
 -- no class begins behind the last one
 pub no_later : (n : ℕ) (st : State) → IsStacked n st → (c : ℕ) → c < length st.classes → (class st c).first ≤ (class st (length st.classes - 1)).first

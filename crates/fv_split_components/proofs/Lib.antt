@@ -1,6 +1,6 @@
 pub mod Packs
 pub mod RowLinks
-pub mod Walks
+pub mod lemmas
 pub mod Places
 pub mod Held
 pub mod Visits

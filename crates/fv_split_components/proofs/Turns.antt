@@ -6,7 +6,7 @@ use Rattle.fv_split_components.specs.headline.Reach.{Links, at, Reaches}
 use Rattle.fv_split_components.specs.declared.search.Mark.TheVariants.{Open, Done}
 use Rattle.fv_split_components.specs.inner.Search.{State, no_class, mark, class, Together, Followed, Finished, Before, Waiting, IsSearch, IsHeld, IsCountUpTo}
 use Rattle.fv_split_components.specs.inner.Search.{collapsed}
-use Rattle.fv_split_components.proofs.Walks.{reaches_trans}
+use Rattle.fv_split_components.proofs.lemmas.Walks.{reaches_trans}
 use Rattle.fv_split_components.proofs.Held.{to_held}
 
 -- the node that waited last is taken

@@ -8,7 +8,7 @@ use Rattle.fv_split_components.specs.declared.search.Mark.TheVariants.{New, Open
 use Rattle.fv_split_components.specs.declared.search.Class.{Class}
 use Rattle.fv_split_components.specs.inner.Search.{State, no_class, mark, class, Together, Followed, Finished, Before, Waiting, IsMarked}
 use Rattle.fv_split_components.specs.inner.Search.{IsStacked, IsReaching, IsDone, AreFollowed, IsSearch, IsHeld, visited}
-use Rattle.fv_split_components.proofs.Walks.{reaches_trans, reaches_self, reaches_step}
+use Rattle.fv_split_components.proofs.lemmas.Walks.{reaches_trans, reaches_self, reaches_step}
 use Rattle.fv_split_components.proofs.Held.{to_held}
 use Rattle.fv_split_components.proofs.Places.{AtSet, Same, Other, at_set, AtPush, Older, Last, at_push, Former, Latter, at_append}
 

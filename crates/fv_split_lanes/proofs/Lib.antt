@@ -1,4 +1,4 @@
-pub mod RowLemmas
+pub mod lemmas
 pub mod HomeLemmas
 pub mod RankLemmas
 pub mod ReaderLemmas

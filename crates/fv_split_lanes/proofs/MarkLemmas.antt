@@ -17,7 +17,7 @@ use Rattle.fv_split_lanes.specs.inner.Rows.{reads_of}
 use Rattle.fv_split_lanes.specs.inner.Homes.{bit_at}
 use Rattle.fv_split_lanes.specs.inner.Readers.{reader_at, IsReader, ReadsBelow, AreReaders}
 use Rattle.fv_split_lanes.specs.inner.Marked.{Marks, ByOne, Named, DelaysTo, Delayed, Defined, Shared, Written, AreMarked}
-use Rattle.fv_split_lanes.proofs.RowLemmas.{leads_read, read_lower}
+use Rattle.fv_split_lanes.proofs.lemmas.RowLemmas.{leads_read, read_lower}
 
 pub marks_set : (old new : List Bool) (x : ℕ) → x < length old → new ≡ set old x true → Marks old new (λ s. x ≡ s)
 marks_set old new x l e = subst (λ n. Marks old n (λ s. x ≡ s)) (sym e) record {

@@ -8,7 +8,7 @@ use Rattle.fv_signal.specs.headline.Value.{Graph, IsGraph}
 use Rattle.fv_signal.specs.headline.Rates.{rates}
 use Rattle.fv_split_components.specs.headline.Reach.{at}
 use Rattle.fv_split_components.specs.Reach.{next_of, AreLinks, AreComponents}
-use Rattle.fv_split_components.proofs.Walks.{reaches_trans}
+use Rattle.fv_split_components.proofs.lemmas.Walks.{reaches_trans}
 use Rattle.fv_split_plan.specs.headline.Separated.{AsShared, links_of}
 use Rattle.fv_split_lanes.specs.declared.lanes.Lanes.{Lanes}
 use Rattle.fv_split_lanes.specs.declared.lanes.Numbering.{Numbering}
@@ -21,7 +21,7 @@ use Rattle.fv_split_lanes.specs.inner.Readers.{reader_at, IsReader, ReadsBelow, 
 use Rattle.fv_split_lanes.specs.inner.Marked.{AreMarked}
 use Rattle.fv_split_lanes.specs.inner.Numbered.{AreNumbered, IsInnerBy, AreInner}
 use Rattle.fv_split_lanes.specs.Placed.{IsInner, LanesArePlaced, LoopsArePlaced, HomesArePlaced, ArePlaced}
-use Rattle.fv_split_lanes.proofs.RowLemmas.{rows_are, links_none, reads_none, leads_read, read_lower, links_within, reach_within, all_reach}
+use Rattle.fv_split_lanes.proofs.lemmas.RowLemmas.{rows_are, links_none, reads_none, leads_read, read_lower, links_within, reach_within, all_reach}
 use Rattle.fv_split_lanes.proofs.ReaderLemmas.{one_reader}
 use Rattle.fv_split_lanes.proofs.RankLemmas.{are_loops}
 

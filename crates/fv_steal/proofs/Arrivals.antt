@@ -6,7 +6,7 @@ use Rattle.fv_outside.specs.Tasks.{times, task_count}
 use Rattle.fv_graph.specs.Net.{Net}
 use Rattle.fv_graph.specs.Graph.{net_of, feeds_of}
 use Rattle.fv_graph.specs.Wires.{IsWires, wires_of}
-use Rattle.fv_graph.proofs.Counts.{bit_left, total_append}
+use Rattle.fv_graph.proofs.lemmas.Counts.{bit_left, total_append}
 use Rattle.fv_ready_rule.specs.declared.Deed.TheVariants.{Arrived}
 use Rattle.fv_ready_rule.specs.declared.View.{View}
 use Rattle.fv_ready_rule.specs.Rule.{done_by, noted, arrives, finishes}

@@ -7,7 +7,7 @@ use Rattle.fv_outside.specs.headline.Tasks.{Tasks, total}
 use Rattle.fv_outside.specs.Tasks.{times, task_count}
 use Rattle.fv_outside.specs.headline.Journal.{stamped}
 use Rattle.fv_graph.specs.Graph.{net_of, inward, outward}
-use Rattle.fv_graph.proofs.Counts.{get_map}
+use Rattle.fv_graph.proofs.lemmas.Counts.{get_map}
 use Rattle.fv_graph_core.specs.Core.{opening, deque_of, dealt, ready}
 use Rattle.fv_ready_rule.specs.declared.Deed.{Deed}
 use Rattle.fv_ready_rule.specs.declared.About.{About}

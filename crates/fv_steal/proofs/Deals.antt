@@ -7,7 +7,7 @@ use native.Mathlib.Decide.{dec_le}
 use Rattle.std.proofs.lemmas.List.{length-map, take_more, map_push, length-replicate, get_or-replicate}
 use Rattle.fv_outside.specs.headline.Tasks.{bit, total}
 use Rattle.fv_outside.specs.Tasks.{times}
-use Rattle.fv_graph.proofs.Counts.{get_set, get_map, bit_apart, total_append}
+use Rattle.fv_graph.proofs.lemmas.Counts.{get_set, get_map, bit_apart, total_append}
 use Rattle.fv_deque.specs.declared.handles.TaskDeque.{TaskDeque}
 use Rattle.fv_deque.specs.declared.handles.Victim.{Victim}
 use Rattle.fv_deque.specs.Deques.{account_of, lies_at, robs, taken_by}

@@ -5,7 +5,7 @@ use Rattle.fv_outside.specs.headline.Tasks.{Tasks, bit, total}
 use Rattle.fv_outside.specs.Tasks.{times, task_count}
 use Rattle.fv_graph.specs.Net.{need_count}
 use Rattle.fv_graph.specs.Graph.{net_of}
-use Rattle.fv_graph.proofs.Counts.{total_set, get_set}
+use Rattle.fv_graph.proofs.lemmas.Counts.{total_set, get_set}
 use Rattle.fv_graph_core.specs.Core.{opening, deque_of}
 use Rattle.fv_ready_rule.specs.Rule.{done_by, claims, zeroes}
 use Rattle.fv_ready.specs.declared.board.Board.{Board}

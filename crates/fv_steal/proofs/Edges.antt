@@ -7,7 +7,7 @@ use Rattle.fv_outside.specs.Tasks.{times, task_count}
 use Rattle.fv_graph.specs.Net.{need_count}
 use Rattle.fv_graph.specs.Graph.{net_of, inward, outward, feeds_of}
 use Rattle.fv_graph.specs.Wires.{IsWires, wires_of}
-use Rattle.fv_graph.proofs.Counts.{bit_le, bit_true, bit_one, both_true, bit_same, bit_left}
+use Rattle.fv_graph.proofs.lemmas.Counts.{bit_le, bit_true, bit_one, both_true, bit_same, bit_left}
 
 -- an edge that goes into a task and out of it is neither inner, since its source is before its reader, nor both entry and exit
 out_in : (i n x p q : Bool) → bit i + bit n + bit x < 2 → 0 < bit ((i || n) && p) → 0 < bit ((i || x) && q) → (i ≡ true) × (p ≡ true) × (q ≡ true)

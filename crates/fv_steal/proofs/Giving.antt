@@ -7,7 +7,7 @@ use mathlib.Core.Logic.{dite}
 use native.Mathlib.Decide.{dec_le}
 use Rattle.fv_outside.specs.headline.Tasks.{bit, total}
 use Rattle.fv_outside.specs.Tasks.{times}
-use Rattle.fv_graph.proofs.Counts.{total_set, total_append, get_set, get_map}
+use Rattle.fv_graph.proofs.lemmas.Counts.{total_set, total_append, get_set, get_map}
 use Rattle.fv_deque.specs.declared.rule.Account.{Account}
 use Rattle.fv_deque.specs.declared.handles.TaskDeque.{TaskDeque}
 use Rattle.fv_deque.specs.declared.handles.Victim.{Victim}

@@ -4,14 +4,14 @@ use mathlib.Core.Logic.{dite}
 use native.Mathlib.Decide.{ℕ_discrete}
 use Rattle.fv_outside.specs.headline.Tasks.{bit, total}
 use Rattle.fv_outside.specs.Tasks.{times}
-use Rattle.fv_graph.proofs.Counts.{bit_same, bit_apart}
+use Rattle.fv_graph.proofs.lemmas.Counts.{bit_same, bit_apart}
 use Rattle.fv_ready.specs.declared.board.Board.{Board}
 use Rattle.fv_ready.specs.declared.seat.WorkerSeat.{WorkerSeat}
 use Rattle.fv_ready.specs.Seats.{view_of}
 use Rattle.fv_graph.specs.Graph.{Graph, net_of}
 use Rattle.fv_ready_rule.specs.Shown.{OwesNothing}
 use Rattle.fv_ready.specs.Boards.{about_of, graph_of, AreSeatsOf}
-use Rattle.fv_ready.proofs.Seated.{owes_nothing}
+use Rattle.fv_ready.proofs.lemmas.Seated.{owes_nothing}
 use Rattle.fv_ready.specs.Counted.{HaveAll}
 use Rattle.fv_steal.specs.declared.worker.Worker.{Worker}
 use Rattle.fv_steal.specs.Crews.{did, seat_of, IsWorkerOf}

@@ -19,3 +19,4 @@ pub mod Together
 pub mod Ordered
 pub mod Handed
 pub mod Stolen
+pub mod Places

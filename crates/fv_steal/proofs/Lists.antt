@@ -4,7 +4,7 @@ use Rattle.std.proofs.Common.{◌==◌}
 use Rattle.std.proofs.lemmas.List.{take_more, drop_more, take-append-drop}
 use Rattle.fv_outside.specs.headline.Tasks.{bit}
 use Rattle.fv_outside.specs.Tasks.{times}
-use Rattle.fv_graph.proofs.Counts.{bit_same, total_append}
+use Rattle.fv_graph.proofs.lemmas.Counts.{bit_same, total_append}
 
 -- what stands at a place stands in the list
 pub times_at : (xs : List ℕ) (i d : ℕ) → i < length xs → 0 < times (get_or xs i d) xs

@@ -2,11 +2,11 @@
 use Rattle.std.proofs.Common.{◌≡◌, ℕ, ◌+◌, ◌<◌, Bool, true, ◌&&◌, ◌==◌, [], ◌∷◌, refl, sym, ap, ◌∙◌, arith}
 use Rattle.fv_outside.specs.headline.Tasks.{bit}
 use Rattle.fv_graph.specs.Net.{Net}
-use Rattle.fv_graph.proofs.Counts.{bit_same, bit_left}
+use Rattle.fv_graph.proofs.lemmas.Counts.{bit_same, bit_left}
 use Rattle.fv_ready_rule.specs.declared.Deed.TheVariants.{Arrived, Saw}
 use Rattle.fv_ready_rule.specs.declared.View.{View}
 use Rattle.fv_ready_rule.specs.Rule.{done_by, noted, sees, arrives, zeroes}
-use Rattle.fv_ready_rule.proofs.Hands.{done_noted}
+use Rattle.fv_ready_rule.proofs.lemmas.Hands.{done_noted}
 use Rattle.fv_steal.specs.inner.Steps.{Looked, HasArrived}
 
 module _ {C : Type 0} where

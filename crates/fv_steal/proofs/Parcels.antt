@@ -9,7 +9,7 @@ use Rattle.fv_outside.specs.headline.Tasks.{Tasks}
 use Rattle.fv_outside.specs.Tasks.{times, task_count}
 use Rattle.fv_graph.specs.Graph.{inward, outward}
 use Rattle.fv_graph.specs.Wires.{IsWires, wires_of}
-use Rattle.fv_graph.proofs.Counts.{bit_apart}
+use Rattle.fv_graph.proofs.lemmas.Counts.{bit_apart}
 use Rattle.fv_ready_rule.specs.Rule.{places}
 use Rattle.fv_ready_rule.specs.Carried.{slot_at, with_slot}
 use Rattle.fv_steal.specs.Moves.{AreParcelsOf}

@@ -3,7 +3,7 @@ use Rattle.std.proofs.Common.{◌≡◌, ◌≢◌, ℕ, ◌<◌, cond, List, []
 use mathlib.Core.Logic.{dite}
 use native.Mathlib.Decide.{ℕ_discrete}
 use Rattle.fv_outside.specs.Tasks.{times}
-use Rattle.fv_graph.proofs.Counts.{bit_apart}
+use Rattle.fv_graph.proofs.lemmas.Counts.{bit_apart}
 use Rattle.fv_ready_rule.specs.Rule.{places, Each}
 use Rattle.fv_ready_rule.specs.Carried.{slot_at, with_slot}
 
@@ -45,5 +45,5 @@ module _ {C : Type 0} where
   pub behind : (ins outs : List (ℕ × Option C)) → Each (λ e x. x ≡ None) outs → (e : ℕ) → times e (places ins) ≡ 0 → slot_at (ins ++ (outs ++ [])) e ≡ None
   behind [] outs all e h = nones outs all e
   behind (x ∷ xs) outs all e h = dite (ℕ_discrete x.0 e)
-      (λ is. let o = Rattle.fv_graph.proofs.Counts.bit_same x.0 e is in absurd (omega arith))
+      (λ is. let o = Rattle.fv_graph.proofs.lemmas.Counts.bit_same x.0 e is in absurd (omega arith))
       (λ ne. ap (λ b. cond b x.1 (slot_at (xs ++ (outs ++ [])) e)) (ne_eqb x.0 e ne) ∙ behind xs outs all e (omega arith))

@@ -7,19 +7,19 @@ use Rattle.fv_outside.specs.Tasks.{times, task_count}
 use Rattle.fv_outside.specs.declared.gate.Line.{Line}
 use Rattle.fv_outside.specs.declared.tasks.Task.{Task}
 use Rattle.fv_graph.specs.Graph.{Graph, IsGraph, net_of, feeds_of, task_of}
-use Rattle.fv_graph.proofs.Ranges.{quotient_small}
+use Rattle.fv_graph.proofs.lemmas.Ranges.{quotient_small}
 use Rattle.fv_graph.specs.Wires.{IsWires, wires_of}
-use Rattle.fv_graph.proofs.Counts.{bit_same, bit_left, bit_right, total_append}
+use Rattle.fv_graph.proofs.lemmas.Counts.{bit_same, bit_left, bit_right, total_append}
 use Rattle.fv_ready_rule.specs.declared.Deed.{Deed}
 use Rattle.fv_ready_rule.specs.declared.Deed.TheVariants.{Stamped, Saw, Claimed}
 use Rattle.fv_ready_rule.specs.declared.View.{View}
 use Rattle.fv_ready_rule.specs.Rule.{done_by, noted, wins, claims, arrives, finishes, zeroes}
-use Rattle.fv_ready_rule.proofs.Hands.{done_noted}
+use Rattle.fv_ready_rule.proofs.lemmas.Hands.{done_noted}
 use Rattle.fv_ready.specs.declared.board.Board.{Board}
 use Rattle.fv_ready.specs.declared.seat.WorkerSeat.{WorkerSeat}
 use Rattle.fv_ready.specs.Seats.{view_of, slots_of, hand_of}
 use Rattle.fv_ready.specs.Boards.{about_of, graph_of, IsSeatOf}
-use Rattle.fv_ready.proofs.Seated.{busy_of}
+use Rattle.fv_ready.proofs.lemmas.Seated.{busy_of}
 use Rattle.fv_deque.specs.declared.rule.Account.{Account}
 use Rattle.fv_deque.specs.declared.handles.TaskDeque.{TaskDeque}
 use Rattle.fv_deque.specs.Deques.{account_of, room_of, lies_at, taken_by}

@@ -9,7 +9,7 @@ use Rattle.fv_outside.specs.Tasks.{times, task_count}
 use Rattle.fv_outside.specs.declared.gate.Line.{Line}
 use Rattle.fv_graph.specs.Graph.{net_of, task_of}
 use Rattle.fv_graph.specs.Wires.{IsWires, wires_of}
-use Rattle.fv_graph.proofs.Counts.{bit_same, bit_apart}
+use Rattle.fv_graph.proofs.lemmas.Counts.{bit_same, bit_apart}
 use Rattle.fv_graph_core.specs.Core.{opening, deque_of}
 use Rattle.fv_ready_rule.specs.declared.Deed.TheVariants.{Stamped, Claimed}
 use Rattle.fv_ready_rule.specs.declared.About.{About}

@@ -4,3 +4,4 @@ pub mod Gathers
 pub mod Drains
 pub mod Made
 pub mod Assembled
+pub mod Places

@@ -8,6 +8,7 @@ mod journal;
 mod making;
 mod moves;
 mod part;
+mod side_by_side;
 mod turns;
 mod worker;
 mod working;

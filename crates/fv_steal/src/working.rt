@@ -14,6 +14,7 @@ ghost use Rattle.fv_steal.specs.inner.Drains.{HaveNone, AreDrained};
 
 use crate::body::Body;
 use crate::gathering::gather;
+use crate::side_by_side::for_each_mut;
 use crate::turns::turn;
 use crate::worker::Worker;
 use fv_deque::Victim;
@@ -22,13 +23,20 @@ use fv_outside::Gate;
 use fv_ready::{Board, Parcel};
 use std::marker::{Send, Sync};
 use std::sync::Wait;
-use std::thread;
 use std::thread::Threads;
 
 // How often a worker that found nothing goes round the others' deques before it leaves.
 const ROUNDS: u32 = 64;
 
-/// A number of the deque at a place, if it is not the worker's own.
+/// The first number of the deque at a place.
+fn first_at(victims: &mut Vec<Victim>, i: usize) -> Option<u64>
+    requires there { i < vec_len victims.old }
+    ensures { HasStolen result victims.old victims.new }
+{
+    victims[i].steal()
+}
+
+/// The first number of the deque at a place, if it is not the worker's own.
 fn steal_from(victims: &mut Vec<Victim>, i: usize, own: u64) -> Option<u64>
     requires there { i < vec_len victims.old }
     ensures { HasStolen result victims.old victims.new }
@@ -36,7 +44,17 @@ fn steal_from(victims: &mut Vec<Victim>, i: usize, own: u64) -> Option<u64>
     if i as u64 == own {
         return None;
     }
-    victims[i].steal()
+    first_at(victims, i)
+}
+
+/// The first number of the worker's own deque.
+fn first_of_own(victims: &mut Vec<Victim>, own: usize) -> Option<u64>
+    ensures { HasStolen result victims.old victims.new }
+{
+    if own >= victims.len() {
+        return None;
+    }
+    first_at(victims, own)
 }
 
 /// Tries each deque but the worker's own once.
@@ -65,8 +83,8 @@ fn steal(victims: &mut Vec<Victim>, own: u64) -> Option<u64>
     None
 }
 
-/// A number to run next: the last of the worker's own deque, or else one of another's.
-fn find<C>(worker: &mut Worker<C>) -> Option<u64>
+/// The last number of the worker's own deque, or else one of another's.
+fn last_or_stolen<C>(worker: &mut Worker<C>) -> Option<u64>
     ensures found { MatchOption result ((x : ℕ) → took worker.new x ≡ took worker.old x) (λ t. (x : ℕ) → took worker.new x ≡ took worker.old x + bit (t == x)) }
     ensures same { IsSame worker.old worker.new }
     ensures keeps { Keeps worker.old worker.new }
@@ -76,6 +94,20 @@ fn find<C>(worker: &mut Worker<C>) -> Option<u64>
         return own;
     }
     steal(&mut worker.victims, u64::from(worker.number))
+}
+
+/// A number to run next: the first of the worker's own deque, so that the vectors of all loops go side by side and what reads a
+/// vector of them all need not wait for the last one. Where another took that number at the same time, the last, or else one of another's.
+fn find<C>(worker: &mut Worker<C>) -> Option<u64>
+    ensures found { MatchOption result ((x : ℕ) → took worker.new x ≡ took worker.old x) (λ t. (x : ℕ) → took worker.new x ≡ took worker.old x + bit (t == x)) }
+    ensures same { IsSame worker.old worker.new }
+    ensures keeps { Keeps worker.old worker.new }
+{
+    let first = first_of_own(&mut worker.victims, worker.number as usize);
+    if first.is_some() {
+        return first;
+    }
+    last_or_stolen(worker)
 }
 
 /// A worker's turns, until it finds nothing any more.
@@ -143,11 +175,9 @@ fn live_all<R: Threads + Wait + Sync, C: Parcel + Send + Drop, B: Body<C> + Sync
     ensures turned { (i : ℕ) (d : Worker C) → i < length workers.old
         → HasTurned C.edge_of C.key_of board.now tasks.now.tasks (get_or workers.old i d) (get_or workers.new i d) }
 {
-    let count = workers.len();
-    thread::for_each_mut(
+    for_each_mut(
         rt,
         workers,
-        count,
         &|_, worker: &mut Worker<C>| { live(rt, tasks, board, body, gate, worker) },
     );
 }

@@ -61,13 +61,13 @@ fn tasks_all_on_one_thread_are_refused(rt: HostRuntime) -> Result<(), Fail> {
     Ok(())
 }
 
-// Three loops that read nothing, and two workers: worker 0 gets tasks 0 and 2, and takes task 2 first. The gate holds that one until
-// task 0 runs, so another worker must have stolen it.
+// Three loops that read nothing, and two workers: worker 0 gets tasks 0 and 2, and takes task 0 first. The gate holds that one until
+// task 2 runs, so another worker must have stolen it.
 #[test]
 fn workers_that_never_steal_are_refused(rt: HostRuntime) -> Result<(), Fail> {
     let alloc = rt.alloc();
     let tasks = Tasks::new(alloc, 3, 1, &[])?;
-    let gate = Until::new(2, 0);
+    let gate = Until::new(0, 2);
     let block = ran(&rt, alloc, &tasks, 2, &gate)?;
     assert!(rt; block.done);
     assert_eq!(rt; block.lines.len(), 3);

@@ -12,7 +12,7 @@ use Rattle.fv_outside.specs.headline.Requests.{Request, to_read, to_write}
 use Rattle.fv_outside.specs.headline.Journal.{Told}
 use Rattle.fv_outside.specs.headline.Desk.{DeskState, GoesOn, HasFault, KeepsFaults, IsUnfailing}
 use Rattle.fv_outside.specs.Desk.{Appends}
-use Rattle.fv_outside.proofs.States.{goes_on_then, fault_earlier, told_before, unfailing_later}
+use Rattle.fv_outside.proofs.lemmas.States.{goes_on_then, fault_earlier, told_before, unfailing_later}
 use Rattle.fv_control.specs.declared.script.Change.{Change}
 use Rattle.fv_control.specs.headline.Streams.{control_streams}
 use Rattle.fv_engine_render.specs.headline.Render.{RanTo, initial_of}

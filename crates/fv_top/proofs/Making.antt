@@ -8,7 +8,7 @@ use Rattle.fv_base.specs.declared.role.Role.TheVariants.{Program, Input, Control
 use Rattle.fv_base.specs.headline.Lists.{IsPrefixOf}
 use Rattle.fv_outside.specs.headline.Desk.{DeskState, HasFault, KeepsFaults, IsUnfailing}
 use Rattle.fv_outside.specs.Desk.{Appends}
-use Rattle.fv_outside.proofs.States.{goes_on_self}
+use Rattle.fv_outside.proofs.lemmas.States.{goes_on_self}
 use Rattle.fv_top_report.specs.declared.refusal.Refusal.{Refusal}
 use Rattle.fv_top_report.specs.declared.refusal.Refusal.TheVariants.{WriteFault, NoMemory}
 use Rattle.fv_diagram.specs.headline.Diagram.{Diagram}

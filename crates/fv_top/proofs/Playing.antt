@@ -7,16 +7,16 @@ use Rattle.std.proofs.Math.Nat.{mul-pos, mul-div_cancel, mul_assoc, mul-le-mul_l
 use Rattle.std.proofs.lemmas.Bool.{cases_lt, eq-eqb, ne_eqb}
 use Rattle.std.proofs.lemmas.List.{append-nil, drop_all, drop-drop}
 use Rattle.fv_base.specs.headline.Lists.{IsPrefixOf}
-use Rattle.fv_base.proofs.Lists.{length_table, prefix_trans}
+use Rattle.fv_base.proofs.lemmas.Lists.{length_table, prefix_trans}
 use Rattle.fv_base.specs.declared.role.Role.TheVariants.{Input, Output}
 use Rattle.fv_diagram.specs.Frames.{Frame, Stream}
 use Rattle.fv_outside.specs.headline.Desk.{DeskState, HasFault, KeepsFaults, IsUnfailing}
 use Rattle.fv_outside.specs.Desk.{Appends}
-use Rattle.fv_outside.proofs.States.{goes_on_then, told_before, fault_earlier, unfailing_later}
+use Rattle.fv_outside.proofs.lemmas.States.{goes_on_then, told_before, fault_earlier, unfailing_later}
 use Rattle.fv_pcm.specs.headline.Coded.{frame_bytes}
 use Rattle.fv_diagram.specs.Words.{is_sample_width}
 use Rattle.fv_pcm.specs.headline.Sizes.{frame_size, data_size}
-use Rattle.fv_pcm.proofs.Widths.{at_width}
+use Rattle.fv_pcm.proofs.lemmas.Widths.{at_width}
 use Rattle.fv_diagram.specs.headline.Diagram.{Diagram, outputs}
 use Rattle.fv_diagram.specs.headline.Streams.{run}
 use Rattle.fv_diagram.specs.headline.Samples.{no_slots}

@@ -4,7 +4,7 @@ use Rattle.std.specs.Prelude.{IsTrue, Some, None, Option, Ok, Err, Result, is_so
 use Rattle.fv_base.specs.declared.role.Role.TheVariants.{Program, Controls, Input}
 use Rattle.fv_outside.specs.headline.Requests.{Request, to_read}
 use Rattle.fv_outside.specs.headline.Desk.{DeskState, File, KeepsFaults}
-use Rattle.fv_outside.proofs.States.{told_before}
+use Rattle.fv_outside.proofs.lemmas.States.{told_before}
 use Rattle.fv_control.specs.declared.script.Change.{Change}
 use Rattle.fv_top_words.specs.headline.Runs.{Run, Settings}
 use Rattle.fv_top_words.specs.headline.Commands.{Playing}

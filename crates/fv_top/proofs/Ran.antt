@@ -18,7 +18,7 @@ use Rattle.fv_top_playable.specs.Playables.{IsPlayable}
 use Rattle.fv_top_playable.specs.declared.playable.Playable.{Playable}
 use Rattle.fv_top_text.specs.headline.Compiled.{Compiled}
 use Rattle.fv_top_words.specs.headline.Runs.{Settings}
-use Rattle.fv_top_words.specs.Runs.{AreSound}
+use Rattle.fv_top_words.specs.Runs.{AreValid}
 use Rattle.fv_top_words.specs.declared.cause.Cause.{Cause}
 use Rattle.fv_top_words.specs.headline.Commands.{Job, Playing, Checking, Making, job_in}
 use Rattle.fv_top_report.specs.declared.refusal.Refusal.{Refusal}
@@ -50,7 +50,7 @@ set_to_play m p ks played s r h same inputs outputs controls ready = record {
       (ready m.diagram (subst (CanBePlayed m.diagram p.graph p.inputs) (sym same) (can_be_played m p h)));
 }
 
-pub can_have : (s : Settings) (frames : ℕ) → AreSound s → CanHave (sizes_of s frames)
+pub can_have : (s : Settings) (frames : ℕ) → AreValid s → CanHave (sizes_of s frames)
 can_have s frames h =
     let some : 1 ≤ s.vector = h.vector_least in
     let same : s.block + s.vector - 1 ≡ s.block + (s.vector - 1) = omega arith in

@@ -6,7 +6,7 @@ use Rattle.fv_base.specs.declared.role.Role.{Role}
 use Rattle.fv_base.specs.declared.role.Role.TheVariants.{Program, Controls, Input}
 use Rattle.fv_outside.specs.headline.Requests.{Request, to_read}
 use Rattle.fv_outside.specs.headline.Desk.{DeskState, KeepsFaults, IsUnfailing}
-use Rattle.fv_outside.proofs.States.{quiet_self, quiet_then, told_before, fault_earlier, unfailing_later}
+use Rattle.fv_outside.proofs.lemmas.States.{quiet_self, quiet_then, told_before, fault_earlier, unfailing_later}
 use Rattle.fv_diagram.specs.headline.Diagram.{Diagram, inputs, outputs}
 use Rattle.fv_top_words.specs.declared.manner.ProgramKind.{ProgramKind}
 use Rattle.fv_top_words.specs.declared.manner.ProgramKind.TheVariants.{Alone, Rack}

@@ -7,7 +7,7 @@ use Rattle.fv_base.specs.headline.Lists.{IsPrefixOf}
 use Rattle.fv_outside.specs.headline.Requests.{Request}
 use Rattle.fv_outside.specs.headline.Desk.{DeskState, GoesOn, HasFault}
 use Rattle.fv_outside.specs.Desk.{Appends}
-use Rattle.fv_outside.proofs.States.{goes_on_then, fault_earlier, fault_later, told_before}
+use Rattle.fv_outside.proofs.lemmas.States.{goes_on_then, fault_earlier, fault_later, told_before}
 use Rattle.fv_top_words.specs.headline.Runs.{Run}
 use Rattle.fv_top_report.specs.declared.refusal.Refusal.{Refusal}
 use Rattle.fv_top_report.specs.headline.Lines.{refused_line}

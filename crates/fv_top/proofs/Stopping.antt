@@ -7,7 +7,7 @@ use Rattle.fv_base.specs.declared.role.Role.TheVariants.{Program, Input, Output,
 use Rattle.fv_outside.specs.headline.Requests.{Request, to_read}
 use Rattle.fv_outside.specs.headline.Desk.{DeskState, File, GoesOn}
 use Rattle.fv_outside.specs.Desk.{Appends}
-use Rattle.fv_outside.proofs.States.{told_before}
+use Rattle.fv_outside.proofs.lemmas.States.{told_before}
 use Rattle.fv_top_words.specs.declared.cause.Cause.{Cause}
 use Rattle.fv_top_words.specs.declared.manner.ProgramKind.{ProgramKind}
 use Rattle.fv_top_words.specs.declared.manner.ProgramKind.TheVariants.{Alone, Rack}

@@ -8,7 +8,7 @@ ghost use Rattle.fv_outside.specs.headline.Desk.{KeepsFaults};
 ghost use Rattle.fv_pcm.specs.headline.Sizes.{data_size, data_limit};
 ghost use Rattle.fv_control.specs.Laws.{NeverFall, IsOfControls};
 ghost use Rattle.fv_top_words.specs.headline.Commands.{Playing};
-ghost use Rattle.fv_top_words.specs.Runs.{AreSound};
+ghost use Rattle.fv_top_words.specs.Runs.{AreValid};
 ghost use Rattle.fv_top_words.specs.Views.{run_in as run_view, settings_in};
 ghost use Rattle.fv_top_text.specs.headline.Compiled.{Compiled};
 ghost use Rattle.fv_top_playable.specs.Playables.{IsPlayable};
@@ -54,7 +54,7 @@ pub fn prepare<'a, D: Desk>(
     desk: &mut D,
     run: &Run<'a>,
 ) -> Result<Prepared<'a>, Refusal>
-    requires { AreSound (run_view run.now).settings }
+    requires { AreValid (run_view run.now).settings }
     ensures reaches { OnOk result (Reaches (IsReadBy (Playing (run_view run.now))) (asked_before (run_view run.now)) (D.state desk.old) (D.state desk.new)) }
     ensures steady { OnOk result (KeepsFaults (D.state desk.old) (D.state desk.new)) }
     ensures ready { IfOk result (λ p. (c : Compiled) × CanRun c p
@@ -92,7 +92,7 @@ fn take_memory<'a>(
     loaded: Loaded,
     format: OutputFormat,
 ) -> Result<Prepared<'a>, AllocError>
-    requires sizes { AreSound (settings_in settings.now) }
+    requires sizes { AreValid (settings_in settings.now) }
     requires playable { (c : Compiled) × IsPlayable c playable }
     requires order { NeverFall 0 script }
     requires lawful { AllByRecursion (IsOfControls playable.controls.items) script }

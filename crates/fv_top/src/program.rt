@@ -31,7 +31,7 @@ use std::alloc::Global;
 const PROGRAM_BYTES: usize = LONGEST_TEXT + 1;
 
 /// Loads the program whose text the file of this name is, with its delays.
-#[tactic(auto, using(fv_outside::proofs::States::steps, fv_top_files::proofs::Loads::reading))]
+#[tactic(auto, using(fv_outside::proofs::lemmas::States::steps, fv_top_files::proofs::lemmas::Loads::reading))]
 pub fn load_program<D: Desk>(
     alloc: Global,
     desk: &mut D,
@@ -55,7 +55,7 @@ pub fn load_program<D: Desk>(
 }
 
 /// Loads what is played of the file of this name and kind.
-#[tactic(auto, using(fv_outside::proofs::States::steps, fv_top_files::proofs::Loads::reading))]
+#[tactic(auto, using(fv_outside::proofs::lemmas::States::steps, fv_top_files::proofs::lemmas::Loads::reading))]
 pub fn load_playable<D: Desk>(
     alloc: Global,
     desk: &mut D,

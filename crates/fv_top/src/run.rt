@@ -3,7 +3,7 @@
 ghost use Rattle.std.specs.Prelude.{◌≡◌, map, string_bytes, IfOk, IfErr};
 ghost use Rattle.fv_outside.specs.headline.Desk.{GoesOn};
 ghost use Rattle.fv_top_words.specs.headline.Commands.{Playing};
-ghost use Rattle.fv_top_words.specs.Runs.{AreSound};
+ghost use Rattle.fv_top_words.specs.Runs.{AreValid};
 ghost use Rattle.fv_top_words.specs.Views.{run_in as run_view};
 ghost use Rattle.fv_top.specs.headline.Promise.{IfDone, IfRefused, HasDone, IsRefusedFor, LeavesOutput, CutsShort, IsRead, KeepsOthers, Reports};
 ghost use Rattle.fv_top.specs.inner.Promise.{OfWords};
@@ -80,7 +80,7 @@ fn play_run<R: Threads + Wait + Sync, D: Desk, G: Gate + Sync>(
     desk: &mut D,
     gate: &mut G,
 ) -> Result<Tally, Refusal>
-    requires { AreSound (run_view run).settings }
+    requires { AreValid (run_view run).settings }
     ensures done { IfOk result (λ tally. OfWords (Playing (run_view run.entry)) (λ words.
         EndsDone words tally.frames (D.state desk.old) (D.state desk.new))) }
     ensures blocks { IfOk result (λ tally. OfWords (Playing (run_view run.entry)) (λ words.

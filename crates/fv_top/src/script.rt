@@ -22,7 +22,7 @@ use std::alloc::Global;
 const SCRIPT_BYTES: usize = LONGEST_TEXT + 1;
 
 /// Loads the script of this name for these controls; without a name, one that changes nothing.
-#[tactic(auto, using(fv_outside::proofs::States::steps, fv_top_files::proofs::Loads::reading))]
+#[tactic(auto, using(fv_outside::proofs::lemmas::States::steps, fv_top_files::proofs::lemmas::Loads::reading))]
 pub fn load_script<D: Desk>(
     alloc: Global,
     desk: &mut D,

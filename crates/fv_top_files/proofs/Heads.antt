@@ -7,7 +7,7 @@ use Rattle.std.proofs.lemmas.List.{drop_at, append-nil}
 use Rattle.fv_outside.specs.Role.TheVariants.{Input}
 use Rattle.fv_outside.specs.headline.Desk.{DeskState, File, file_named}
 use Rattle.fv_outside.specs.Desk.{Takes}
-use Rattle.fv_outside.proofs.States.{told_before, fault_earlier, unfailing_later}
+use Rattle.fv_outside.proofs.lemmas.States.{told_before, fault_earlier, unfailing_later}
 use Rattle.fv_pcm.specs.headline.Sizes.{data_limit}
 use Rattle.fv_wav.specs.declared.head.Head.{Head}
 use Rattle.fv_wav.specs.declared.refusal.WaveRefusal.{WaveRefusal}
@@ -30,7 +30,7 @@ use Rattle.fv_top_files.specs.headline.Sources.{Source, headed, wave_source, au_
 use Rattle.fv_top_files.specs.headline.Loading.{HasInput}
 use Rattle.fv_top_files.specs.Loading.{ReadsFile, StopsLoading, HasHead, IsHeadRefusal}
 use Rattle.fv_top_files.specs.inner.Loading.{StopsHead, GivesHead}
-use Rattle.fv_top_files.proofs.Loads.{cannot_later}
+use Rattle.fv_top_files.proofs.lemmas.Loads.{cannot_later}
 
 pub head_none : (kind : InputKind) (files : List File) (left : List ℕ) → HasHead kind None files None None left
 head_none kind files left = record {

@@ -10,7 +10,7 @@ use fv_top_report::Refusal;
 use std::alloc::Global;
 
 /// The first bytes of the file of this name, so many or all of them.
-#[tactic(auto, using(fv_outside::proofs::States::steps, crate::proofs::Loads::reading))]
+#[tactic(auto, using(fv_outside::proofs::lemmas::States::steps, crate::proofs::lemmas::Loads::reading))]
 pub fn read_front<D: Desk>(
     alloc: Global,
     desk: &mut D,

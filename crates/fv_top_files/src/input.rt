@@ -33,7 +33,7 @@ pub struct Loaded {
 }
 
 /// Reads the head of the input of this name, a file of this kind; without a name there is none.
-#[tactic(auto, using(fv_outside::proofs::States::steps, crate::proofs::Loads::reading))]
+#[tactic(auto, using(fv_outside::proofs::lemmas::States::steps, crate::proofs::lemmas::Loads::reading))]
 pub fn load_head<D: Desk>(
     alloc: Global,
     desk: &mut D,
@@ -68,7 +68,7 @@ pub fn load_head<D: Desk>(
 }
 
 // The head of the file that was begun, of this kind.
-#[tactic(auto, using(fv_outside::proofs::States::steps))]
+#[tactic(auto, using(fv_outside::proofs::lemmas::States::steps))]
 fn load_file<D: Desk>(alloc: Global, desk: &mut D, kind: InputKind) -> Result<Loaded, Refusal>
     ensures takes { TakesSome Input (D.state desk.old) (D.state desk.new) }
     ensures headed { IfOk result (λ l. IsTrue (D.state desk.old).tells →
@@ -86,7 +86,7 @@ fn load_file<D: Desk>(alloc: Global, desk: &mut D, kind: InputKind) -> Result<Lo
 }
 
 // The same of a file that is AU where its first four bytes say so, else WAV.
-#[tactic(auto, using(fv_outside::proofs::States::steps))]
+#[tactic(auto, using(fv_outside::proofs::lemmas::States::steps))]
 fn load_either<D: Desk>(alloc: Global, desk: &mut D) -> Result<Loaded, Refusal>
     ensures takes { TakesSome Input (D.state desk.old) (D.state desk.new) }
     ensures headed { IfOk result (λ l. IsTrue (D.state desk.old).tells →
@@ -112,7 +112,7 @@ fn load_either<D: Desk>(alloc: Global, desk: &mut D) -> Result<Loaded, Refusal>
 }
 
 // That of a WAV file that begins with these bytes, which were taken.
-#[tactic(auto, using(fv_outside::proofs::States::steps))]
+#[tactic(auto, using(fv_outside::proofs::lemmas::States::steps))]
 fn load_wave<D: Desk>(desk: &mut D, begun: &[u8]) -> Result<Loaded, Refusal>
     requires { length begun.now ≤ 4 }
     ensures takes { TakesSome Input (D.state desk.old) (D.state desk.new) }
@@ -134,7 +134,7 @@ fn load_wave<D: Desk>(desk: &mut D, begun: &[u8]) -> Result<Loaded, Refusal>
 }
 
 // That of an AU file that begins with these bytes, which were taken.
-#[tactic(auto, using(fv_outside::proofs::States::steps))]
+#[tactic(auto, using(fv_outside::proofs::lemmas::States::steps))]
 fn load_au<D: Desk>(alloc: Global, desk: &mut D, begun: &[u8]) -> Result<Loaded, Refusal>
     requires few { length begun.now ≤ 4 }
     requires begins { IsTrue (D.state desk.old).tells → IsAu (begun.now ++ (D.state desk.old).left Input) }

@@ -16,7 +16,7 @@ use Rattle.fv_jobs_controls.specs.headline.Labels.{controls_from, labelled}
 use Rattle.fv_join.specs.declared.job.Job.{Job}
 use Rattle.fv_join.specs.Jobs.{CanBeJoined, NamesBelow, ReadsWithin}
 use Rattle.fv_join_diagrams.specs.headline.Parts.{Part}
-use Rattle.fv_propagate.proofs.Named.{control_below}
+use Rattle.fv_propagate.proofs.lemmas.Named.{control_below}
 use Rattle.fv_propagate.specs.headline.Propagated.{NamesOf}
 use Rattle.fv_top_rack.specs.Rules.{visit_limit}
 use Rattle.fv_signal.specs.declared.signal.Signal.{Signal}
@@ -26,7 +26,7 @@ use Rattle.fv_top_rack.specs.CompiledBeside.{CanPlay, compiled_of}
 use Rattle.fv_top_rack.specs.headline.Racks.{part_of}
 use Rattle.fv_top_rack.specs.Reads.{IsRead, programs_in}
 use Rattle.fv_top_rack.specs.declared.programs.Read.{Read}
-use Rattle.fv_top_rack.proofs.Sums.{own}
+use Rattle.fv_top_rack.proofs.lemmas.Sums.{own}
 
 -- ---- the graph of a program as a job
 

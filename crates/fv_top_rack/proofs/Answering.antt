@@ -33,11 +33,11 @@ use Rattle.fv_top_text.specs.headline.Program.{TextIs, valued}
 use Rattle.fv_top_text.specs.inner.Layers.{WidthIs, ValueIs, SpellingIs, Delayed, Narrow, Evaluates}
 use Rattle.fv_top_text.specs.Program.{IsOneText}
 use Rattle.fv_top_text.specs.headline.Program.{delay_in, delayed, delays_in, first_bad, narrow}
-use Rattle.fv_top_text.proofs.AnswerLaws.{kept_is}
+use Rattle.fv_top_text.proofs.lemmas.AnswerLaws.{kept_is}
 use Rattle.fv_top_rack.specs.headline.Racks.{EachIs, WithFirst, part_of, rack_of, refused_job}
 use Rattle.fv_top_rack.specs.Runs.{JobsAnswer, RunsAgree, answer_of, first_values, output_at, own_changes, own_frames}
 use Rattle.fv_top_rack.proofs.Each.{first_of, then_parts}
-use Rattle.fv_top_rack.proofs.Sums.{own, sum_by_map}
+use Rattle.fv_top_rack.proofs.lemmas.Sums.{own, sum_by_map}
 
 -- ---- the program of a text
 

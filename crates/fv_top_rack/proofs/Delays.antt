@@ -5,7 +5,7 @@ use Rattle.std.proofs.Math.Seq.{take-append_seam, drop-append_seam}
 use Rattle.std.proofs.Math.Nat.{le-max_left, le-max_right}
 use Rattle.std.proofs.lemmas.List.{get_or-append-add, get_or_append_left, length-append}
 use Rattle.fv_base.specs.headline.Lists.{table}
-use Rattle.fv_base.proofs.Lists.{length_table}
+use Rattle.fv_base.proofs.lemmas.Lists.{length_table}
 use Rattle.fv_interval.specs.Interval.{Interval, full, point, span_at}
 use Rattle.fv_diagram.specs.declared.node.Primitive.{Primitive as Prim}
 use Rattle.fv_diagram.specs.declared.node.Primitive.TheVariants.{Wire, Cut, Mem, Prefix, Delay, Int, Attach, Point, ReadTable, WriteTable}
@@ -17,7 +17,7 @@ use Rattle.fv_interval.specs.headline.SpanHooks.{control_span}
 use Rattle.fv_interval.specs.headline.WireSpans.{bound_span, delay_spans, merged_spans, spans}
 use Rattle.fv_join_diagrams.specs.headline.Parts.{Part, shifted, side_by_side}
 use Rattle.fv_join_diagrams.specs.Parts.{spans_of}
-use Rattle.fv_join_diagrams.proofs.Shifted.{inputs_shifted}
+use Rattle.fv_join_diagrams.proofs.lemmas.Shifted.{inputs_shifted}
 
 -- ---- a diagram with other controls before its own
 

@@ -9,7 +9,7 @@ use Rattle.fv_top_text.specs.Answers.{IsOnce, IsSome}
 use Rattle.fv_top_text.specs.headline.Compiled.{Compiled}
 use Rattle.fv_top_text.specs.headline.Program.{TextIs}
 use Rattle.fv_top_text.specs.Program.{IsSomeText}
-use Rattle.fv_top_text.proofs.AnswerLaws.{then_once, then_some, turned_once, turned_some}
+use Rattle.fv_top_text.proofs.lemmas.AnswerLaws.{then_once, then_some, turned_once, turned_some}
 use Rattle.fv_top_rack.specs.headline.Racks.{EachIs, WithFirst, refused_job, with_first}
 
 -- what was answered first, and behind it

@@ -1,6 +1,6 @@
 pub mod Each
 pub mod OneFile
 pub mod Delays
-pub mod Sums
+pub mod lemmas
 pub mod Racks
 pub mod Answering

@@ -12,8 +12,8 @@ use Rattle.fv_top_text.specs.headline.Program.{delayed, delays_in, first_bad, na
 use Rattle.fv_top_text.specs.inner.Layers.{Delayed, Narrow}
 use Rattle.fv_top_text.specs.Program.{IsOneText, IsSomeText, IsOneOrOther as TextOneOrOther}
 use Rattle.fv_top_text.specs.Program.{FrontIsEnough as TextFront, ProgramIsWhole as TextIsWhole}
-use Rattle.fv_top_text.proofs.AnswerLaws.{kept_is, then_once, then_refuses, then_some, turned_once, turned_some}
-use Rattle.fv_top_text.proofs.Texts.{then_front}
+use Rattle.fv_top_text.proofs.lemmas.AnswerLaws.{kept_is, then_once, then_refuses, then_some, turned_once, turned_some}
+use Rattle.fv_top_text.proofs.lemmas.Texts.{then_front}
 use Rattle.fv_top_rack.specs.headline.Racks.{EachIs, RackIs, rack_of}
 use Rattle.fv_top_rack.specs.inner.Layers.{Beside, JobsAre, JobsHave}
 use Rattle.fv_top_rack.specs.Kinds.{FrontIsEnough, IsOneFile, IsSomeFile, IsOneOrOther, ProgramIsWhole}

@@ -20,7 +20,7 @@ use Rattle.fv_top_report.specs.headline.Lines.{row_of}
 use Rattle.fv_top_text.specs.headline.Answers.{Then, kept, turned, stops, goes_on}
 use Rattle.fv_top_text.specs.headline.Compiled.{Compiled}
 use Rattle.fv_top_text.specs.headline.Program.{delayed, delays_in, first_bad, narrow, with_channels}
-use Rattle.fv_top_text.proofs.Delayed.{delays_pass, delays_stop}
+use Rattle.fv_top_text.proofs.lemmas.Delayed.{delays_pass, delays_stop}
 use Rattle.fv_top_words.specs.declared.manner.ProgramKind.TheVariants as kinds
 use Rattle.fv_top_rack.specs.headline.Kinds.{is_of_kind}
 use Rattle.fv_top_rack.specs.Kinds.{IsOfKind}

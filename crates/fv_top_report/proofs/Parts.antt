@@ -6,7 +6,7 @@ use Rattle.fv_outside.specs.Role.TheVariants.{Report}
 use Rattle.fv_outside.specs.declared.desk.Failed.{Failed}
 use Rattle.fv_outside.specs.headline.Desk.{DeskState, IsUnfailing}
 use Rattle.fv_outside.specs.Desk.{Appends}
-use Rattle.fv_outside.proofs.States.{appends_then, appends_nothing}
+use Rattle.fv_outside.proofs.lemmas.States.{appends_then, appends_nothing}
 use Rattle.fv_top_report.specs.headline.Lines.{Row, spaced, row_line}
 use Rattle.fv_top_report.specs.Parts.{AppendsPart}
 

@@ -102,7 +102,7 @@ pub fn report_made<D: Desk>(desk: &mut D, voices: u32, frames: u32, sum: i32) ->
 }
 
 /// Reports a run that was refused. A call that fails leaves a part from the line's front.
-#[tactic(auto, using(fv_outside::proofs::States::steps))]
+#[tactic(auto, using(fv_outside::proofs::lemmas::States::steps))]
 pub fn report_refusal<D: Desk>(desk: &mut D, refusal: &Refusal) -> Result<(), Failed>
     ensures ok { OnOk result (Appends Report (refused_line refusal.now) (D.state desk.old) (D.state desk.new)) }
     ensures err { OnErr result (AppendsPart Report (refused_line refusal.now) (D.state desk.old) (D.state desk.new)) }
@@ -116,7 +116,7 @@ pub fn report_refusal<D: Desk>(desk: &mut D, refusal: &Refusal) -> Result<(), Fa
 }
 
 // The line up to the name.
-#[tactic(auto, using(fv_outside::proofs::States::steps))]
+#[tactic(auto, using(fv_outside::proofs::lemmas::States::steps))]
 fn write_front<D: Desk>(desk: &mut D, number: u32, name: &str) -> Result<(), Failed>
     ensures ok { OnOk result (Appends Report (codes "refused " ++ decimal number ++ codes " " ++ name.now) (D.state desk.old) (D.state desk.new)) }
     ensures err { OnErr result (AppendsPart Report (codes "refused " ++ decimal number ++ codes " " ++ name.now) (D.state desk.old) (D.state desk.new)) }
@@ -150,7 +150,7 @@ fn write_fields<D: Desk>(desk: &mut D, fields: &Fields<'_>) -> Result<(), Failed
     }
 }
 
-#[tactic(auto, using(fv_outside::proofs::States::steps))]
+#[tactic(auto, using(fv_outside::proofs::lemmas::States::steps))]
 fn write_one<D: Desk>(desk: &mut D, a: &Field<'_>) -> Result<(), Failed>
     ensures ok { OnOk result (Appends Report (spaced (printed a.now ∷ [])) (D.state desk.old) (D.state desk.new)) }
     ensures err { OnErr result (AppendsPart Report (spaced (printed a.now ∷ [])) (D.state desk.old) (D.state desk.new)) }
@@ -160,7 +160,7 @@ fn write_one<D: Desk>(desk: &mut D, a: &Field<'_>) -> Result<(), Failed>
     Ok(())
 }
 
-#[tactic(auto, using(fv_outside::proofs::States::steps))]
+#[tactic(auto, using(fv_outside::proofs::lemmas::States::steps))]
 fn write_two<D: Desk>(desk: &mut D, a: &Field<'_>, b: &Field<'_>) -> Result<(), Failed>
     ensures ok { OnOk result (Appends Report (spaced (printed a.now ∷ printed b.now ∷ [])) (D.state desk.old) (D.state desk.new)) }
     ensures err { OnErr result (AppendsPart Report (spaced (printed a.now ∷ printed b.now ∷ [])) (D.state desk.old) (D.state desk.new)) }
@@ -171,7 +171,7 @@ fn write_two<D: Desk>(desk: &mut D, a: &Field<'_>, b: &Field<'_>) -> Result<(), 
     Ok(())
 }
 
-#[tactic(auto, using(fv_outside::proofs::States::steps))]
+#[tactic(auto, using(fv_outside::proofs::lemmas::States::steps))]
 fn write_three<D: Desk>(
     desk: &mut D,
     a: &Field<'_>,
@@ -219,7 +219,7 @@ fn write_integer<D: Desk>(desk: &mut D, n: i32) -> Result<(), Failed>
 }
 
 // Some bytes, one space before them.
-#[tactic(auto, using(fv_outside::proofs::States::steps))]
+#[tactic(auto, using(fv_outside::proofs::lemmas::States::steps))]
 fn write_word<D: Desk>(desk: &mut D, bytes: &[u8]) -> Result<(), Failed>
     ensures ok { OnOk result (Appends Report (codes " " ++ bytes.now) (D.state desk.old) (D.state desk.new)) }
     ensures err { OnErr result (AppendsPart Report (codes " " ++ bytes.now) (D.state desk.old) (D.state desk.new)) }

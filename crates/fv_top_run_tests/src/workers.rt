@@ -28,8 +28,8 @@ fn tasks_all_on_one_thread_are_refused(rt: HostRuntime) -> Result<(), Fail> {
     Ok(())
 }
 
-// Three loops that read nothing of one another. Worker 0 has the tasks of loops 0 and 2, and takes the latter first. The gate holds it
-// until that of loop 0 is about to run, so worker 1 has stolen that.
+// Three loops that read nothing of one another. Worker 0 has the tasks of loops 0 and 2, and takes the former first. The gate holds it
+// until that of loop 2 is about to run, so worker 1 has stolen that.
 #[test]
 fn workers_that_never_steal_are_refused(rt: HostRuntime) -> Result<(), Fail> {
     let played: Played = (
@@ -39,7 +39,7 @@ fn workers_that_never_steal_are_refused(rt: HostRuntime) -> Result<(), Fail> {
         (3, &[2, 2, -2, 6, -6, -3]),
         "done 2 frames\n",
     );
-    let mut gate = Until::new(2, 0);
+    let mut gate = Until::new(0, 2);
     let tally = assert_plays(&rt, rt.alloc(), &played, &mut gate)?;
     assert_eq!(rt; (tally.blocks, gate.missed()), (1, false));
     Ok(())

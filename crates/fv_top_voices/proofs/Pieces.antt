@@ -10,9 +10,9 @@ use Rattle.fv_lex.specs.headline.Symbols.{at_byte, singles, double, value}
 use Rattle.fv_lex.specs.headline.Pieces.{is_name, is_integer, is_token, is_real_tail, begins_comment, greatest_literal, IsLongest, IsPiece}
 use Rattle.fv_lex.specs.headline.Pieces.{blank_byte, longest_token}
 use Rattle.fv_lex.specs.headline.Cuts.{deepest, depth_after, Cut, Cuts, piece_first}
-use Rattle.fv_lex.proofs.Runs.{Stops}
-use Rattle.fv_lex.proofs.Classes.{digit_range, no_digit, no_name, no_integer, no_text}
-use Rattle.fv_lex.proofs.Sound.{digits_longest, name_longest, no_comment, no_dot, no_real, no_real_digits, tail_behind, wire_longest}
+use Rattle.fv_lex.proofs.lemmas.Runs.{Stops}
+use Rattle.fv_lex.proofs.lemmas.Classes.{digit_range, no_digit, no_name, no_integer, no_text}
+use Rattle.fv_lex.proofs.lemmas.Sound.{digits_longest, name_longest, no_comment, no_dot, no_real, no_real_digits, tail_behind, wire_longest}
 
 -- ---- tests
 

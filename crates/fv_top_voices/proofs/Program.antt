@@ -10,8 +10,8 @@ use Rattle.fv_interval.specs.Delays.{AreAccepted}
 use Rattle.fv_interval.specs.headline.SpanHooks.{control_span}
 use Rattle.fv_top_text.specs.headline.Program.{delays_in, delayed, first_bad}
 use Rattle.fv_top_text.specs.Program.{IsProgram}
-use Rattle.fv_top_text.proofs.Programs.{spelling_is, value_is, program_is}
-use Rattle.fv_top_text.proofs.Delayed.{delays_pass}
+use Rattle.fv_top_text.proofs.lemmas.Programs.{spelling_is, value_is, program_is}
+use Rattle.fv_top_text.proofs.lemmas.Delayed.{delays_pass}
 use Rattle.fv_top_voices.specs.Voices.{program_of, VoicesAreAProgram}
 use Rattle.fv_top_voices.proofs.Numerals.{written}
 use Rattle.fv_top_voices.proofs.Tokens.{text, lexed, has_tokens}

@@ -9,7 +9,7 @@ use Rattle.fv_lex.specs.headline.Symbols.{value}
 use Rattle.fv_lex.specs.headline.Pieces.{greatest_literal}
 use Rattle.fv_lex.specs.headline.Cuts.{deepest, depth_after, Cut, Cuts, nothing_more, piece_first, whole, first_place, tokens_of, end_of, longest_text, cut}
 use Rattle.fv_lex.specs.Cuts.{HasTokens}
-use Rattle.fv_lex.proofs.Classes.{digit_range}
+use Rattle.fv_lex.proofs.lemmas.Classes.{digit_range}
 use Rattle.fv_top_voices.proofs.Pieces.{number_piece, cuts_of, cuts}
 
 -- the pieces of the text before the number of voices

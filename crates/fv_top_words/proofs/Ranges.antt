@@ -7,7 +7,7 @@ use Rattle.fv_top_words.specs.declared.cause.Cause.{Cause}
 use Rattle.fv_top_words.specs.declared.cause.Cause.TheVariants.{Range, Vectors}
 use Rattle.fv_top_words.specs.headline.Numbers.{◌>>=◌, Numbers}
 use Rattle.fv_top_words.specs.headline.Runs.{within, within_or, is_width, width, default_vector, vectors_in, Settings, checked}
-use Rattle.fv_top_words.specs.Runs.{AreSound, KeepRanges}
+use Rattle.fv_top_words.specs.Runs.{AreValid, KeepRanges}
 
 -- what came before an answer
 bound : {A B : Type 0} (r : Result A Cause) (f : A → Result B Cause) (y : B) → r >>= f ≡ Ok y → (x : A) × (r ≡ Ok x) × (f x ≡ Ok y)
@@ -93,7 +93,7 @@ keep_ranges n s e =
     let r = bound (within 1 (2 ^ 32 - 1) n.rate) (after_rate b.0 v.0 w.0 i.0 f.0) s f.2 in
     let made : Settings = record { block = b.0; vector = v.0; workers = w.0; bits = i.0; frames = f.0; rate = r.0 } in
     let last = few made s r.2 in
-    subst AreSound last.1 (record {
+    subst AreValid last.1 (record {
       block_least = block.0;
       block_most = block.1;
       vector_least = vector.0;

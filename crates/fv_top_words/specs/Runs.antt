@@ -6,7 +6,7 @@ use Rattle.fv_top_words.specs.headline.Numbers.{Numbers}
 use Rattle.fv_top_words.specs.headline.Runs.{is_width, vectors_in, Settings, settings_of}
 
 -- what the settings of every run keep
-pub record AreSound (s : Settings) : Type 0 where
+pub record AreValid (s : Settings) : Type 0 where
   pub block_least : 1 ≤ s.block
   pub block_most : s.block ≤ MOST_BLOCK
   pub vector_least : 1 ≤ s.vector
@@ -20,4 +20,4 @@ pub record AreSound (s : Settings) : Type 0 where
 
 -- Settings that are answered are sound.
 abbrev pub KeepRanges : Type 0
-KeepRanges = (n : Numbers) (s : Settings) → settings_of n ≡ Ok s → AreSound s
+KeepRanges = (n : Numbers) (s : Settings) → settings_of n ≡ Ok s → AreValid s

@@ -20,7 +20,7 @@ use Rattle.fv_top_words.specs.inner.Reader.{Kind, Bare, Ends, Apart, Joined, Sta
 use Rattle.fv_top_words.specs.headline.Texts.{Texts, take_piece, gathered}
 use Rattle.fv_top_words.specs.headline.Numbers.{Numbers}
 use Rattle.fv_top_words.specs.headline.Runs.{Settings, Run}
-use Rattle.fv_top_words.specs.Runs.{AreSound}
+use Rattle.fv_top_words.specs.Runs.{AreValid}
 use Rattle.fv_top_words.specs.headline.Commands.{Job, Playing, Checking, Making}
 
 -- the kind of a word
@@ -128,6 +128,6 @@ job_answered (Err e) = Err e
 
 -- the numbers are within their ranges: the settings of a run, and the voices and workers of a make
 abbrev pub IsJobInRange : Jobs → Type 0
-IsJobInRange (jobs.Run run) = AreSound (settings_in run.settings)
+IsJobInRange (jobs.Run run) = AreValid (settings_in run.settings)
 IsJobInRange (jobs.Check program) = Unit {0}
 IsJobInRange (jobs.Make voices frames workers) = (1 ≤ voices) × (voices ≤ MOST_VOICES) × (1 ≤ workers) × (workers ≤ MOST_WORKERS)

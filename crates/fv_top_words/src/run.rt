@@ -5,7 +5,7 @@ ghost use Rattle.std.specs.Option.{ForSome};
 ghost use Rattle.fv_base.specs.declared.limits.TheConstants.{MOST_BLOCK};
 ghost use Rattle.fv_top_words.specs.headline.Runs.{within, within_or, width, is_width, default_vector, vectors_in, settings_of};
 ghost use Rattle.fv_top_words.specs.headline.Runs.{run_of, by_kinds, of_jobs, output_kind, input_of, is_none_word, is_together, is_same};
-ghost use Rattle.fv_top_words.specs.Runs.{AreSound};
+ghost use Rattle.fv_top_words.specs.Runs.{AreValid};
 ghost use Rattle.fv_top_words.specs.Views.{texts_in, numbers_in, settings_in, settings_answered, run_in, run_answered};
 
 use crate::cause::Cause;
@@ -39,7 +39,7 @@ const WAVE_FILES: Manner = Manner {
 /// The run that the texts of its words ask for, or the first cause to refuse them.
 pub fn run_of<'a>(texts: &Texts<'a>) -> Result<Run<'a>, Cause>
     ensures run { run_answered result ≡ run_of (texts_in texts.now) }
-    ensures ranges { IfOk result (λ r. AreSound (settings_in r.settings)) }
+    ensures ranges { IfOk result (λ r. AreValid (settings_in r.settings)) }
 {
     settings_keep_ranges();
     let Plain::Three(program, input, output) = texts.plain else {

@@ -1,4 +1,4 @@
-pub mod Steps
+pub mod lemmas
 pub mod Parts
 pub mod ChunkKinds
 pub mod Walks
@@ -7,4 +7,3 @@ pub mod Following
 pub mod SampleLemmas
 pub mod Outcomes
 pub mod Endings
-pub mod Begun

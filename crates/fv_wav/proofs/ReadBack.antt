@@ -15,8 +15,8 @@ use Rattle.fv_wav.specs.headline.Samples.{head_bytes, pad_bytes, data_size, data
 use Rattle.fv_wav.specs.Samples.{sample_bytes, layout_of, frames_in}
 use Rattle.fv_wav.specs.Written.{file_bytes, head_of, CanBeWritten}
 use Rattle.fv_pcm.specs.declared.coding.Coding.TheVariants as coding
-use Rattle.fv_pcm.proofs.Widths.{at_width}
-use Rattle.fv_pcm.proofs.Again.{samples_again}
+use Rattle.fv_pcm.proofs.lemmas.Widths.{at_width}
+use Rattle.fv_pcm.proofs.lemmas.Again.{samples_again}
 use Rattle.fv_wav.proofs.Parts.{shape_is, sound_is, fields_plain, format_is, channels_within}
 
 -- ---- the head

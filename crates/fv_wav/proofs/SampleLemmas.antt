@@ -4,8 +4,8 @@ use Rattle.std.specs.Prelude.{Result}
 use Rattle.std.proofs.lemmas.Bool.{cases_lt, le-leb, lt-leb}
 use Rattle.fv_pcm.specs.Words.{is_sample_width}
 use Rattle.fv_pcm.specs.declared.coding.Coding.TheVariants as coding
-use Rattle.fv_pcm.proofs.Samples as samples
-pub use Rattle.fv_pcm.proofs.Widths.{at_width}
+use Rattle.fv_pcm.proofs.lemmas.Samples as samples
+pub use Rattle.fv_pcm.proofs.lemmas.Widths.{at_width}
 use Rattle.fv_wav.specs.headline.Reading.{Rest, past, next}
 use Rattle.fv_wav.specs.Samples.{samples_in}
 use Rattle.fv_wav.specs.declared.refusal.WaveRefusal.{WaveRefusal}

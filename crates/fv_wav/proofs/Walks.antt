@@ -8,7 +8,7 @@ use Rattle.fv_wav.specs.declared.head.Kind.{Kind}
 use Rattle.fv_wav.specs.declared.chunks.Walk.{Walk}
 use Rattle.fv_wav.specs.declared.chunks.Step.{Step}
 use Rattle.fv_wav.specs.declared.refusal.WaveRefusal.{WaveRefusal}
-use Rattle.fv_wav.proofs.Steps.{passes_then, stops_then}
+use Rattle.fv_wav.proofs.lemmas.Steps.{passes_then, stops_then}
 use Rattle.fv_wav.proofs.ChunkKinds.{from_name}
 
 pub continues : (w : Walk) (k : Kind) (s : Step) (name : List ℕ) (c : DeskState) {a b : DeskState} → length name ≡ 4 → k ≡ kind_of name

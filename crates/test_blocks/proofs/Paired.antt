@@ -5,7 +5,7 @@ use native.Mathlib.Decide.{ℕ_discrete}
 use Rattle.fv_outside.specs.headline.Tasks.{bit, total}
 use Rattle.fv_outside.specs.declared.tasks.Reads.{Reads}
 use Rattle.fv_graph.specs.Graph.{no_reads}
-use Rattle.fv_graph.proofs.Counts.{bit_le, bit_apart, bit_false, bit_right, total_append, total_zero}
+use Rattle.fv_graph.proofs.lemmas.Counts.{bit_le, bit_apart, bit_false, bit_right, total_append, total_zero}
 use Rattle.test_blocks.specs.Pairs.{AreBefore}
 
 -- what holds at each place holds with one more behind

@@ -49,7 +49,7 @@ fn has_each_task(tasks: &Tasks, lines: &[Line]) -> bool {
 }
 
 // The line is of a task that there is, and starts before it finishes.
-fn is_sound(tasks: &Tasks, line: &Line) -> bool {
+fn is_valid(tasks: &Tasks, line: &Line) -> bool {
     line.task.loop_no < tasks.loops()
         && line.task.vector < tasks.vectors()
         && line.start < line.finish
@@ -69,9 +69,9 @@ fn are_in_order(table: &Table, first: &Line, other: &Line) -> bool {
         && (!does_read(table, first.task, other.task) || other.finish < first.start)
 }
 
-// The line is sound, and in order with each of those behind it.
+// The line is valid, and in order with each of those behind it.
 fn leads(tasks: &Tasks, table: &Table, line: &Line, behind: &[Line]) -> bool {
-    is_sound(tasks, line) && behind.iter().all(|other| are_in_order(table, line, other))
+    is_valid(tasks, line) && behind.iter().all(|other| are_in_order(table, line, other))
 }
 
 /// Whether the lines are the ordered journal of the tasks: one line for each task and no other, no stamp twice, each start before its

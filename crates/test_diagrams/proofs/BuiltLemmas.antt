@@ -8,7 +8,7 @@ use Rattle.fv_diagram.specs.headline.Diagram.{Diagram, has_table_primitive}
 use Rattle.fv_diagram.specs.Diagram.{control_bound, IsFree}
 use Rattle.std.specs.Prelude.{◌||◌, length}
 use Rattle.fv_diagram.specs.Composed.{IsComposed}
-use Rattle.fv_diagram.proofs.Composed.{composed_is_well}
+use Rattle.fv_diagram.proofs.lemmas.Composed.{composed_is_well}
 use Rattle.fv_diagram.specs.Arena.{Arena, count_of, with_node, tree_of, tree_with}
 use Rattle.fv_arity.specs.Compositions.{HasComposedParts}
 use Rattle.test_diagrams.specs.Built.{CanRun, AllCanRun, IsAllowed}

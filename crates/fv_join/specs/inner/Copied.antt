@@ -73,7 +73,7 @@ pub record IsOneOf (g : Graph) (o : Offsets) (n : ℕ) (signal : Signal) : Type 
   pub is : signal ≡ renumbered images o (node g place)
 
 -- each group has its mark, and no Back names a group that is still to come
-pub record IsSound (d : Draft) : Type 0 where
+pub record IsValid (d : Draft) : Type 0 where
   pub marked : length d.closed ≡ length d.groups
   pub fresh : (k : ℕ) → length d.groups ≤ k → BacksWithin d k 0
 
@@ -113,7 +113,7 @@ pub record IsAppended (g : Graph) (inputs controls : ℕ) (old new : Draft) (out
   pub groups : (k : ℕ) → k < length old.groups → slice_index_or new.groups k [] ≡ slice_index_or old.groups k []
   pub tables : new.tables ≡ old.tables ++ g.tables
   pub closed : AreClosed old → AreClosed new
-  pub sound : IsSound new
+  pub valid : IsValid new
   pub images : ℕ → ℕ
   pub outputs : outs ≡ map images g.outputs
   pub copied : IsCopied g (graph_of new []) images (offsets_behind inputs controls old)

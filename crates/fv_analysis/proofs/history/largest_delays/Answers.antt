@@ -1,7 +1,7 @@
 use Rattle.std.proofs.Common.{◌∙◌, ap, map, ℕ, length, get_or, List, Bool, false}
-use Rattle.fv_base.proofs.Lists.{length_table}
+use Rattle.fv_base.proofs.lemmas.Lists.{length_table}
 use Rattle.fv_analysis.specs.headline.History.{history_from, history_of}
-use Rattle.fv_analysis.proofs.HistoryLemmas.{all_histories}
+use Rattle.fv_analysis.proofs.lemmas.HistoryLemmas.{all_histories}
 use Rattle.fv_analysis.proofs.history.largest_delays.Goals as goal
 
 pub returns-clause-histories : goal.returns-clause-histories

@@ -2,7 +2,7 @@ use Rattle.std.proofs.Common.{◌≡◌, ◌<◌, length, get_or, sym, ap, ◌�
 use Rattle.std.proofs.lemmas.List.{get_or_read}
 use Rattle.fv_signal.specs.headline.Value.{NamesWithin, definition}
 use Rattle.fv_analysis.specs.inner.History.{IsOver}
-use Rattle.fv_analysis.proofs.StandLemmas.{stands_long}
+use Rattle.fv_analysis.proofs.lemmas.StandLemmas.{stands_long}
 use Rattle.fv_analysis.proofs.history.tell.Goals as goal
 
 pub tell_delay-requires-clause-there : goal.tell_delay-requires-clause-there

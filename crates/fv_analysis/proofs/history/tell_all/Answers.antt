@@ -1,5 +1,5 @@
 use Rattle.std.proofs.Common.{◌≡◌, get_or, subst, arith}
-use Rattle.fv_analysis.proofs.HistoryLemmas.{tell_more}
+use Rattle.fv_analysis.proofs.lemmas.HistoryLemmas.{tell_more}
 use Rattle.fv_analysis.proofs.history.tell_all.Goals as goal
 
 pub loop-place-preserved : goal.loop-place-preserved

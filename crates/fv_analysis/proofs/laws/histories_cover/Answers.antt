@@ -1,4 +1,4 @@
-use Rattle.fv_analysis.proofs.HistoryLemmas.{histories_cover}
+use Rattle.fv_analysis.proofs.lemmas.HistoryLemmas.{histories_cover}
 use Rattle.fv_analysis.proofs.laws.histories_cover.Goals as goal
 
 pub returns : goal.returns

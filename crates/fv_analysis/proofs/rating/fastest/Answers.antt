@@ -3,7 +3,7 @@ use Rattle.std.proofs.lemmas.List.{get_or_read, get_or_default}
 use Rattle.std.proofs.lemmas.List.Elements.{All-get_or}
 use Rattle.fv_signal.specs.declared.rate.Rate.TheVariants as rate
 use Rattle.fv_signal.specs.headline.Rates.{rate_at, faster}
-use Rattle.fv_analysis.proofs.RateLemmas.{fastest_more}
+use Rattle.fv_analysis.proofs.lemmas.RateLemmas.{fastest_more}
 use Rattle.fv_analysis.proofs.rating.fastest.Goals as goal
 
 pub loop-signal-preserved : goal.loop-signal-preserved

@@ -6,7 +6,7 @@ use Rattle.fv_signal.specs.headline.Rates.{rate_in, rate_at}
 use Rattle.fv_analysis.specs.headline.Stands.{node}
 use Rattle.fv_analysis.specs.inner.Stands.{OperandsThere}
 use Rattle.fv_analysis.proofs.Grown.{grown_more}
-use Rattle.fv_analysis.proofs.RateLemmas.{there_of, rates_long}
+use Rattle.fv_analysis.proofs.lemmas.RateLemmas.{there_of, rates_long}
 use Rattle.fv_analysis.proofs.rating.rates.Goals as goal
 
 pub rate_of-rate-requires : goal.rate_of-rate-requires

@@ -2,7 +2,7 @@ use Rattle.std.proofs.Common.{◌≡◌, ◌+◌, ◌<◌, [], ◌∷◌, ◌++�
 use Rattle.std.proofs.lemmas.List.{length-take-le}
 use Rattle.std.proofs.lemmas.List.Elements.{All-push}
 use Rattle.fv_signal.specs.declared.signal.Signal.TheVariants.{Const}
-use Rattle.fv_signal.proofs.Grown.{length_grown}
+use Rattle.fv_signal.proofs.lemmas.Grown.{length_grown}
 use Rattle.fv_analysis.specs.headline.Stands.{node, stand_in}
 use Rattle.fv_analysis.proofs.Grown.{grown_more}
 use Rattle.fv_analysis.proofs.resolve.stands.Goals as goal

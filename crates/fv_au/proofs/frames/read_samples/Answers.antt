@@ -2,7 +2,7 @@ use Rattle.std.proofs.Common.{◌≡◌, ◌*◌, ◌/◌, length, sym, arith, a
 use Rattle.fv_base.specs.declared.role.Role.TheVariants.{Input}
 use Rattle.std.proofs.lemmas.Result.{err_from_is_err_and}
 use Rattle.fv_pcm.specs.declared.coding.Coding.TheVariants.{Au}
-use Rattle.fv_pcm.proofs.Samples.{samples_first}
+use Rattle.fv_pcm.proofs.lemmas.Samples.{samples_first}
 use Rattle.fv_au.proofs.Going.{stops_as}
 use Rattle.fv_au.proofs.frames.read_samples.Goals as goal
 

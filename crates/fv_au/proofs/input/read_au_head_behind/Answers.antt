@@ -1,6 +1,6 @@
 use Rattle.std.proofs.Common.{◌++◌, arith, length-append}
 use Rattle.std.proofs.lemmas.Result.{err_from_is_err_and}
-use Rattle.fv_outside.proofs.States.{takes_then}
+use Rattle.fv_outside.proofs.lemmas.States.{takes_then}
 use Rattle.fv_au.proofs.Going.{stops_then}
 use Rattle.fv_au.proofs.Heads.{head_cut_at}
 use Rattle.fv_au.proofs.input.read_au_head_behind.Goals as goal

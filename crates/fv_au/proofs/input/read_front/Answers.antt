@@ -1,6 +1,6 @@
 use Rattle.std.proofs.Common.{◌≡◌, ◌∙◌, ◌+◌, ◌-◌, ◌≤◌, List, ℕ, length, take, ap, refl, rules, arith, subst}
 use Rattle.std.specs.Prelude.{IfOk}
-use Rattle.fv_wav.proofs.Begun.{filled_behind, front_then}
+use Rattle.fv_wav.proofs.lemmas.Begun.{filled_behind, front_then}
 use Rattle.fv_au.proofs.Fronts.{front_ok, front_err}
 use Rattle.fv_au.specs.headline.Reading.{head_of}
 use Rattle.fv_au.proofs.input.read_front.Goals as goal

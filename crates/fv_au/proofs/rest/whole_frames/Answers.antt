@@ -1,7 +1,7 @@
 use Rattle.std.proofs.Common.{◌≡◌, List, ℤ, length, refl, subst}
 use Rattle.std.specs.Prelude.{IfOk}
 use Rattle.fv_pcm.specs.declared.coding.Coding.TheVariants.{Au}
-use Rattle.fv_pcm.proofs.Samples.{samples_first}
+use Rattle.fv_pcm.proofs.lemmas.Samples.{samples_first}
 use Rattle.fv_au.specs.Reading.{whole_samples}
 use Rattle.fv_au.proofs.rest.whole_frames.Goals as goal
 

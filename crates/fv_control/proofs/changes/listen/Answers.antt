@@ -3,7 +3,7 @@ use Rattle.std.specs.Prelude.{slice_set}
 use Rattle.std.proofs.lemmas.Int.{to_z-of_z}
 use Rattle.fv_control.specs.declared.script.Change.{Change}
 use Rattle.fv_control.specs.Laws.{no_change}
-use Rattle.fv_control.proofs.Listening.{applied_more, all_more, all_behind}
+use Rattle.fv_control.proofs.lemmas.Listening.{applied_more, all_more, all_behind}
 use Rattle.fv_control.proofs.changes.listen.Goals as goal
 
 pub returns-then-change-frame-clause-behind : goal.returns-then-change-frame-clause-behind

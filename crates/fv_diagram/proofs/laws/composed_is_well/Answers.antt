@@ -1,4 +1,4 @@
-use Rattle.fv_diagram.proofs.Composed.{composed_is_well}
+use Rattle.fv_diagram.proofs.lemmas.Composed.{composed_is_well}
 use Rattle.fv_diagram.proofs.laws.composed_is_well.Goals as goal
 
 pub returns : goal.returns

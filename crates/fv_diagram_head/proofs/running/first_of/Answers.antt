@@ -3,7 +3,7 @@ use Rattle.fv_diagram.specs.Words.{argument}
 use Rattle.fv_diagram.specs.Frames.{Frame}
 use Rattle.fv_diagram.specs.Arena.{tree_of}
 use Rattle.fv_diagram_number.specs.headline.Numbers.{silent}
-use Rattle.fv_diagram_head.proofs.Closed.{runs_alone}
+use Rattle.fv_diagram_head.proofs.lemmas.Closed.{runs_alone}
 use Rattle.fv_diagram_head.proofs.Numbered.{first_given}
 use Rattle.fv_diagram_head.proofs.running.first_of.Goals as goal
 

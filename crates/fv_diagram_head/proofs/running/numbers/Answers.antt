@@ -2,7 +2,7 @@ use Rattle.std.proofs.Common.{◌≡◌, length, ◌++◌, [], ◌∷◌, ◌∙
 use Rattle.fv_diagram.specs.Words.{argument}
 use Rattle.fv_diagram.specs.Arena.{tree_of}
 use Rattle.fv_diagram_number.specs.headline.Numbers.{silent}
-use Rattle.fv_diagram_head.proofs.Closed.{runs_alone}
+use Rattle.fv_diagram_head.proofs.lemmas.Closed.{runs_alone}
 use Rattle.fv_diagram_head.proofs.Numbered.{as_many, frames, ran_none, ran_on}
 use Rattle.fv_diagram_head.proofs.running.numbers.Goals as goal
 

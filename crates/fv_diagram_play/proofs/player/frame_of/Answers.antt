@@ -1,6 +1,6 @@
 use Rattle.std.proofs.Common.{◌≡◌, ◌+◌, ◌-◌, ◌*◌, ◌≤◌, length, take, drop, ◌∙◌, ap, arith}
 use Rattle.std.proofs.Math.Nat.{mul-le-mul_left}
-use Rattle.fv_num.proofs.Parts.{part_is}
+use Rattle.fv_num.proofs.lemmas.Parts.{part_is}
 use Rattle.fv_diagram_play.proofs.player.frame_of.Goals as goal
 
 pub returns : goal.returns

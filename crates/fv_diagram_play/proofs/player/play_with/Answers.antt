@@ -1,5 +1,5 @@
 use Rattle.std.proofs.Common.{◌≡◌, ◌+◌, [], ◌∷◌, ◌++◌, List, length, take, sym, ◌∙◌, ap, subst, arith, rules, refl, add-one}
-use Rattle.fv_base.proofs.Lists.{length_table}
+use Rattle.fv_base.proofs.lemmas.Lists.{length_table}
 use Rattle.fv_num.specs.headline.Frames.{Frame, column, table, rows}
 use Rattle.fv_control.specs.Laws.{applied}
 use Rattle.fv_control.specs.headline.Streams.{control_streams}
@@ -7,7 +7,7 @@ use Rattle.fv_diagram.specs.Arena.{tree_of}
 use Rattle.fv_diagram_runner.specs.Steps.{StandsFor}
 use Rattle.fv_diagram.specs.headline.Streams.{run}
 use Rattle.fv_diagram.specs.headline.Samples.{joined, no_slots}
-use Rattle.fv_control.proofs.Listening.{heard_at, values_are, come_later}
+use Rattle.fv_control.proofs.lemmas.Listening.{heard_at, values_are, come_later}
 use Rattle.fv_diagram_play.proofs.Playing.{answers_none, played_more, played_heard}
 use Rattle.fv_diagram_play.proofs.player.play_with.Goals as goal
 

@@ -7,7 +7,7 @@ use Rattle.fv_diagram.specs.headline.Diagram.{outputs}
 use Rattle.fv_diagram_runner.specs.Steps.{StandsFor}
 use Rattle.fv_diagram.specs.headline.Streams.{run}
 use Rattle.fv_diagram.specs.headline.Samples.{joined, no_slots}
-use Rattle.fv_control.proofs.Listening.{heard_at}
+use Rattle.fv_control.proofs.lemmas.Listening.{heard_at}
 use Rattle.fv_diagram_play.proofs.player.play_with.Given as goal
 
 -- the stepper stands for the diagram after the frames so far, what it gave is in the answer, and the values are those after the

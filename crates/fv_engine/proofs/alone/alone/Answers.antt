@@ -11,7 +11,7 @@ use Rattle.fv_engine_tasks.specs.Block.{Block}
 use Rattle.fv_engine_tasks.specs.Jobs.{IsJob, block_of}
 use Rattle.fv_engine_tasks.specs.Outputs.{sample_of}
 use Rattle.fv_engine_tasks.specs.Underway.{IsUnderway, EndsBlock}
-use Rattle.fv_engine_tasks.proofs.Full.{IsDone, can_read}
+use Rattle.fv_engine_tasks.proofs.lemmas.Full.{IsDone, can_read}
 use Rattle.fv_engine.specs.inner.Kept.{KeptRest, state_of}
 use Rattle.fv_engine.proofs.Runs.{starts, state_same}
 use Rattle.fv_engine.proofs.alone.alone.Given.{Over}
@@ -75,10 +75,10 @@ returns-clause-ends g c =
     (state_of c.run_tasks.new.store.plan.now (g.L.LaneStore.lanes c.run_tasks.new.store.lanes.now) c.run_tasks.new.store.lists.now)
     c.run_tasks.new.lines.items) c.begin.ensures.tasks (done g d.After-run_tasks u).ends)
 
-pub returns-clause-sound : goal.returns-clause-sound
-returns-clause-sound g c =
+pub returns-clause-valid : goal.returns-clause-valid
+returns-clause-valid g c =
     let lanes = sym (ap (λ (r : KeptRest _). r.lanes) c.run_tasks.ensures.kept) in
-    subst g.L.LaneStore.is_sound (sym (search (rules, lanes))) c.run_tasks.ensures.sound
+    subst g.L.LaneStore.is_valid (sym (search (rules, lanes))) c.run_tasks.ensures.valid
 
 pub returns-clause-kept : goal.returns-clause-kept
 returns-clause-kept g c =

@@ -8,7 +8,7 @@ use Rattle.fv_lines.specs.Hold.{from_start}
 use Rattle.fv_lines.specs.Solo.{start_at}
 use Rattle.fv_lines.specs.declared.shape.LaneShape.{LaneShape}
 use Rattle.fv_lines.specs.declared.shape.LaneState.{LaneState}
-use Rattle.fv_lines.proofs.Tables.{shapes_fit}
+use Rattle.fv_lines.proofs.lemmas.Tables.{shapes_fit}
 use Rattle.fv_split_plan.specs.headline.View.{lane_info}
 use Rattle.fv_engine.proofs.Made.{all_held, starts_zero, nothing_yet}
 use Rattle.fv_engine.proofs.make.blank_lanes.Goals.{In_ok-written}

@@ -8,7 +8,7 @@ use Rattle.fv_split_plan.specs.Rows.{lists_of}
 use Rattle.fv_engine_tasks.specs.Block.{Block, IsReal}
 use Rattle.fv_engine_tasks.specs.Jobs.{block_of}
 use Rattle.fv_engine_tasks.specs.Underway.{EndsBlock}
-use Rattle.fv_engine_tasks.proofs.Full.{IsDone, lane_full}
+use Rattle.fv_engine_tasks.proofs.lemmas.Full.{IsDone, lane_full}
 use Rattle.fv_engine.specs.inner.Opening.{opening_over}
 use Rattle.fv_engine.specs.inner.Kept.{state_of}
 use Rattle.fv_engine.proofs.Runs.{LiesOver, opening_long, are_full, holds_next, there_in}
@@ -62,7 +62,7 @@ pub finish-requires-clause-full : goal.finish-requires-clause-full
 finish-requires-clause-full g c =
     let d = goal.at.finish-requires-clause-full g c in let block = done g d.After-alone (opens g d.After-begin-solo) in
     let kept = c.alone.ensures.kept ∙ c.begin-solo.ensures.kept in
-    are_full c.alone.new.lanes c.args.job.now.frames c.alone.ensures.sound (ap (λ (r : SoloRest). r.frames) kept)
+    are_full c.alone.new.lanes c.args.job.now.frames c.alone.ensures.valid (ap (λ (r : SoloRest). r.frames) kept)
     (λ i l. lane_full block i (let n = block.ends.long in omega (arith, l, n)))
 
 pub returns-clause-ran : goal.returns-clause-ran

@@ -5,7 +5,7 @@ use Rattle.fv_graph.specs.Words.{passing}
 use Rattle.fv_split_plan.specs.headline.View.{PlanView}
 use Rattle.fv_split_plan.specs.declared.lane.LaneInfo.{LaneInfo}
 use Rattle.fv_graph.specs.inner.Lists.{Grouped}
-use Rattle.fv_graph.proofs.Grouping.{grouped_next, get_any}
+use Rattle.fv_graph.proofs.lemmas.Grouping.{grouped_next, get_any}
 use Rattle.fv_engine_codes.proofs.Keys.{owners_of, owner_is, own_by_keys}
 use Rattle.fv_engine_codes.proofs.owners.lanes_by_loop.Goals as goal
 

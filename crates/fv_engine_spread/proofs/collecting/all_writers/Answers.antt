@@ -2,7 +2,7 @@ use Rattle.std.proofs.Common.{◌≡◌, ℕ, ◌+◌, ◌<◌, Iter, List, [], 
 use Rattle.std.specs.Global.{Box}
 use Rattle.std.proofs.lemmas.List.{length-append, length-reverse, length-set, length_push}
 use Rattle.std.specs.declared.iter.Rev.{Rev}
-use Rattle.fv_graph.proofs.Grouping.{get_any}
+use Rattle.fv_graph.proofs.lemmas.Grouping.{get_any}
 use Rattle.fv_split_plan.specs.headline.View.{PlanView, lane_info}
 use Rattle.fv_split_plan.specs.declared.lane.LaneInfo.{LaneInfo}
 use Rattle.fv_lines.specs.declared.writer.LaneWriter.{LaneWriter}

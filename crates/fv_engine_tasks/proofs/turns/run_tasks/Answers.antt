@@ -9,7 +9,7 @@ turn-requires-clause-underway g c = let u = c.requires.underway in (u.0, u.1, c.
 pub loop-t-preserved : goal.loop-t-preserved
 loop-t-preserved g c = record {
   core = keeps_on c.args.core.now c.loop-t.core c.turn.new.core c.loop-t.invariant.core c.turn.ensures.core;
-  sound = c.turn.ensures.sound;
+  valid = c.turn.ensures.valid;
   kept = c.turn.ensures.kept ∙ c.loop-t.invariant.kept;
   rows = c.turn.ensures.rows ∙ c.loop-t.invariant.rows;
   regs = c.turn.ensures.regs ∙ c.loop-t.invariant.regs;

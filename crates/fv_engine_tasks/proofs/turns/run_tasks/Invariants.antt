@@ -11,7 +11,7 @@ use Rattle.fv_engine_tasks.proofs.turns.run_tasks.Given as goal
 abbrev pub invariant-loop-t : goal.invariant-loop-t
 invariant-loop-t g l = record {
   core : KeepsCore l.initial.core l.core;
-  sound : g.S.Store.is_sound l.store;
+  valid : g.S.Store.is_valid l.store;
   kept : g.S.Store.rest l.store ≡ g.S.Store.rest l.initial.store;
   rows : length l.rows ≡ length l.initial.rows;
   regs : length l.regs ≡ length l.initial.regs;

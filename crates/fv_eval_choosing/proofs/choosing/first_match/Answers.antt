@@ -1,7 +1,7 @@
 use Rattle.std.proofs.Common.{◌+◌, ◌≤◌, true, false, Some, sym, subst, arith}
 use Rattle.fv_eval_choosing.specs.Chosen.{Chooses, nodes_of}
-use Rattle.fv_eval_scopes.proofs.Added.{adds_on}
-use Rattle.fv_eval_patterns.proofs.InOrder.{all_sound}
+use Rattle.fv_eval_scopes.proofs.lemmas.Added.{adds_on}
+use Rattle.fv_eval_patterns.proofs.lemmas.InOrder.{all_valid}
 use Rattle.fv_eval_choosing.proofs.RuleNodes.{node_there}
 use Rattle.fv_eval_choosing.proofs.RulesChosen.{NextRule, next_at, rules_begin, rules_go_on, rules_skipped, rule_chosen, no_rule_chosen, tried_rule}
 use Rattle.fv_eval_choosing.proofs.choosing.first_match.Goals as goal
@@ -44,9 +44,9 @@ rules-preserved c =
       within = within;
     }
 
-pub match_all-requires-clause-sound : goal.match_all-requires-clause-sound
-match_all-requires-clause-sound c =
-    all_sound c.args.diagrams.now c.rules.diagrams c.args.subjects.now.values.now c.rules.invariant.chooses.adds c.requires.sound
+pub match_all-requires-clause-valid : goal.match_all-requires-clause-valid
+match_all-requires-clause-valid c =
+    all_valid c.args.diagrams.now c.rules.diagrams c.args.subjects.now.values.now c.rules.invariant.chooses.adds c.requires.valid
 
 pub returns-in_err-match_all-clause-adds : goal.returns-in_err-match_all-clause-adds
 returns-in_err-match_all-clause-adds c =

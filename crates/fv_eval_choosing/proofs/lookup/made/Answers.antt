@@ -5,7 +5,7 @@ use Rattle.fv_parse.specs.Trees.{tree_in, start_in}
 use Rattle.fv_eval_scopes.specs.declared.value.Meaning.TheVariants as meaning
 use Rattle.fv_rules.specs.headline.Values.{Name, is_of}
 use Rattle.fv_eval_choosing.specs.inner.Lookup.{are_names}
-use Rattle.fv_eval_patterns.proofs.Matched.{node_is}
+use Rattle.fv_eval_patterns.proofs.lemmas.Matched.{node_is}
 use Rattle.fv_eval_choosing.proofs.Lookups.{HasPatterns, abstraction_made, rules_made, nothing_made, not_a_definition}
 use Rattle.fv_eval_choosing.proofs.lookup.made.Goals.{else-count-eq1-via-then-count-eq1+else-are_names, else-count-eq1-via-else-count-eq1}
 use Rattle.fv_eval_choosing.proofs.lookup.made.Goals.{In-Function}

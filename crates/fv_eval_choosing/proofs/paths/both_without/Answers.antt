@@ -1,4 +1,4 @@
-use Rattle.fv_eval_patterns.proofs.Matched.{all_parts_of}
+use Rattle.fv_eval_patterns.proofs.lemmas.Matched.{all_parts_of}
 use Rattle.fv_eval_choosing.proofs.paths.both_without.Goals as goal
 
 pub returns-clause-there : goal.returns-clause-there

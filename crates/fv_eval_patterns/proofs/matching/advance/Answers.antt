@@ -10,8 +10,8 @@ use Rattle.fv_rules.specs.headline.Matching.{matched, is_number}
 use Rattle.fv_parse.specs.Arena.{trees}
 use Rattle.fv_parse.specs.headline.Trees.{PartsBelow}
 use Rattle.fv_parse.specs.Trees.{start_in}
-use Rattle.fv_eval_patterns.proofs.Matched.{node_is}
-use Rattle.fv_eval_patterns.proofs.Matched.{IsPaired, BothWait, MatchesNothing, name_leaves, number_answers, parts_leave, other_refuses, other_pattern}
+use Rattle.fv_eval_patterns.proofs.lemmas.Matched.{node_is}
+use Rattle.fv_eval_patterns.proofs.lemmas.Matched.{IsPaired, BothWait, MatchesNothing, name_leaves, number_answers, parts_leave, other_refuses, other_pattern}
 use Rattle.fv_eval_patterns.proofs.matching.advance.Goals as goal
 
 pub returns-in_ok-bind-in-Named-clause-matched : goal.returns-in_ok-bind-in-Named-clause-matched

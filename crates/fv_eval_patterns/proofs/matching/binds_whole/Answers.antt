@@ -3,7 +3,7 @@ use Rattle.fv_parse.specs.Arena.{trees}
 use Rattle.fv_parse.specs.Trees.{start_in}
 use Rattle.fv_rules.specs.headline.Matching.{matched}
 use Rattle.fv_eval_patterns.specs.Patterns.{ShowsMatched}
-use Rattle.fv_eval_patterns.proofs.Matched.{whole_refuses}
+use Rattle.fv_eval_patterns.proofs.lemmas.Matched.{whole_refuses}
 use Rattle.fv_eval_patterns.proofs.matching.binds_whole.Goals as goal
 
 pub returns-in_default : goal.returns-in_default

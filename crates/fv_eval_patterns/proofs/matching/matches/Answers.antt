@@ -2,7 +2,7 @@ use Rattle.std.proofs.Common.{[]}
 use Rattle.fv_parse.specs.Trees.{tree_in}
 use Rattle.fv_rules.specs.headline.Matching.{matched}
 use Rattle.fv_eval_patterns.specs.Patterns.{with_diagrams}
-use Rattle.fv_eval_patterns.proofs.Matched.{handed_out, not_handed_out}
+use Rattle.fv_eval_patterns.proofs.lemmas.Matched.{handed_out, not_handed_out}
 use Rattle.fv_eval_patterns.proofs.matching.matches.Goals as goal
 
 pub returns-then-branch-clause-matched : goal.returns-then-branch-clause-matched

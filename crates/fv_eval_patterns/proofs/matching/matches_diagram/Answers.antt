@@ -1,6 +1,6 @@
 use Rattle.std.proofs.Common.{◌++◌, ◌∷◌, [], refl, sym, ap}
-use Rattle.fv_eval_scopes.proofs.Added.{adds_on}
-use Rattle.fv_eval_patterns.proofs.Matched.{taken_off, left_by, refused_by, loop_begins, pair_next, loop_goes_on, loop_falls, loop_refuses}
+use Rattle.fv_eval_scopes.proofs.lemmas.Added.{adds_on}
+use Rattle.fv_eval_patterns.proofs.lemmas.Matched.{taken_off, left_by, refused_by, loop_begins, pair_next, loop_goes_on, loop_falls, loop_refuses}
 use Rattle.fv_eval_patterns.proofs.matching.matches_diagram.Goals as goal
 
 -- the whole was tried alone

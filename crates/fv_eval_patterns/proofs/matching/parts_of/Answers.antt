@@ -1,4 +1,4 @@
-use Rattle.fv_eval_patterns.proofs.Matched.{all_parts_of}
+use Rattle.fv_eval_patterns.proofs.lemmas.Matched.{all_parts_of}
 use Rattle.fv_eval_patterns.proofs.matching.parts_of.Goals as goal
 
 pub returns-clause-there : goal.returns-clause-there

@@ -11,9 +11,9 @@ use Rattle.fv_rules.specs.headline.Values.{Flat}
 use Rattle.fv_rules.specs.headline.Matching.{matched, is_number}
 use Rattle.fv_eval_patterns.specs.declared.trying.Task.TheVariants.{Try}
 use Rattle.fv_eval_patterns.specs.Patterns.{are_parts, ArePartsOf}
-use Rattle.fv_eval_patterns.proofs.Matched.{node_is}
-use Rattle.fv_eval_patterns.proofs.Matched.{MatchesNothing, other_pattern, other_refuses}
-use Rattle.fv_eval_patterns.proofs.LongPatterns.{BothTried, nothing_left, number_said, parts_split, said}
+use Rattle.fv_eval_patterns.proofs.lemmas.Matched.{node_is}
+use Rattle.fv_eval_patterns.proofs.lemmas.Matched.{MatchesNothing, other_pattern, other_refuses}
+use Rattle.fv_eval_patterns.proofs.lemmas.LongPatterns.{BothTried, nothing_left, number_said, parts_split, said}
 use Rattle.fv_eval_patterns.proofs.trying.attempt.Goals as goal
 
 pub returns-in-Some-clause-splits : goal.returns-in-Some-clause-splits

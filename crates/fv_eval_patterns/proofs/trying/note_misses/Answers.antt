@@ -1,6 +1,6 @@
 use Rattle.std.proofs.Common.{Some, ◌∙◌, ap}
 use Rattle.fv_eval_patterns.specs.declared.trying.Task.TheVariants.{Try, Note}
-use Rattle.fv_eval_patterns.proofs.LongPatterns.{miss_next, task_taken}
+use Rattle.fv_eval_patterns.proofs.lemmas.LongPatterns.{miss_next, task_taken}
 use Rattle.fv_eval_patterns.proofs.trying.note_misses.Goals as goal
 
 pub loop-task-preserved-in-Continue-1 : goal.loop-task-preserved-in-Continue-1

@@ -1,8 +1,8 @@
 use Rattle.std.proofs.Common.{Some, reverse, ◌∙◌, sym, ap, subst}
 use Rattle.fv_eval_patterns.specs.declared.trying.Task.TheVariants.{Try}
 use Rattle.fv_eval_patterns.specs.Trials.{AllMiss}
-use Rattle.fv_eval_patterns.proofs.LongPatterns.{attempts_begin, attempts_go_on, leads_next, may_not, may_split}
-use Rattle.fv_eval_patterns.proofs.LongPatterns.{task_taken, whole_misses}
+use Rattle.fv_eval_patterns.proofs.lemmas.LongPatterns.{attempts_begin, attempts_go_on, leads_next, may_not, may_split}
+use Rattle.fv_eval_patterns.proofs.lemmas.LongPatterns.{task_taken, whole_misses}
 use Rattle.fv_eval_patterns.proofs.trying.pair_may_match.Goals as goal
 
 pub loop-task-init : goal.loop-task-init

@@ -1,5 +1,5 @@
 use Rattle.fv_eval_patterns.specs.Trials.{weights}
-use Rattle.fv_eval_patterns.proofs.LongPatterns.{Attempts}
+use Rattle.fv_eval_patterns.proofs.lemmas.LongPatterns.{Attempts}
 use Rattle.fv_eval_patterns.proofs.trying.pair_may_match.Given as goal
 
 abbrev pub invariant-loop-task : goal.invariant-loop-task

@@ -1,5 +1,5 @@
 use Rattle.std.proofs.Common.{◌≡◌, ℕ, ◌+◌, ◌-◌, ◌*◌, ◌/◌, length, take, drop, ap, ◌∙◌, arith}
-use Rattle.fv_pcm.proofs.Samples.{samples_first}
+use Rattle.fv_pcm.proofs.lemmas.Samples.{samples_first}
 use Rattle.fv_pcm.specs.Coded.{samples_in}
 use Rattle.fv_file_tape.proofs.samples.decode_behind.Goals as goal
 

@@ -1,7 +1,7 @@
 use Rattle.std.proofs.Common.{◌≡◌, ◌*◌, ◌/◌, ◌++◌, length, sym, ap, ◌∙◌, arith, take, ℕ, List, take_all, refl}
 use Rattle.fv_base.specs.declared.role.Role.TheVariants.{Input}
-use Rattle.fv_pcm.proofs.Samples.{samples_first}
-use Rattle.fv_outside.proofs.States.{front_is}
+use Rattle.fv_pcm.proofs.lemmas.Samples.{samples_first}
+use Rattle.fv_outside.proofs.lemmas.States.{front_is}
 use Rattle.fv_file_tape.proofs.samples.read_samples.Goals as goal
 
 pub returns-clause-ok : goal.returns-clause-ok

@@ -1,5 +1,5 @@
 use Rattle.std.proofs.Common.{◌<◌, ◌++◌, ◌∷◌, [], get_or, length, ap, ◌∙◌, refl, arith}
-use Rattle.fv_graph.proofs.Grouping.{grouped_next, get_any}
+use Rattle.fv_graph.proofs.lemmas.Grouping.{grouped_next, get_any}
 use Rattle.fv_graph.proofs.groups.group.Goals as goal
 
 pub loop-k-preserved : goal.loop-k-preserved

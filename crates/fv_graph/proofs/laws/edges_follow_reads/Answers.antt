@@ -1,4 +1,4 @@
-use Rattle.fv_graph.proofs.ReadsLemmas.{reads_law}
+use Rattle.fv_graph.proofs.lemmas.ReadsLemmas.{reads_law}
 use Rattle.fv_graph.proofs.laws.edges_follow_reads.Goals as goal
 
 pub returns : goal.returns

@@ -1,4 +1,4 @@
-use Rattle.fv_graph.proofs.Graphs.{is_wires}
+use Rattle.fv_graph.proofs.lemmas.Graphs.{is_wires}
 use Rattle.fv_graph.proofs.laws.edges_meet.Goals as goal
 
 pub returns : goal.returns

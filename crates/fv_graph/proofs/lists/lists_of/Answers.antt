@@ -1,7 +1,7 @@
 use Rattle.std.proofs.Common.{◌≡◌, ℕ, ◌+◌, ◌*◌, ◌/◌, ◌%◌, ◌<◌, [], ◌∷◌, List, map, length, get_or, sym, ap, ◌∙◌, subst, arith, mod-lt}
 use Rattle.std.specs.Global.{Vec}
 use Rattle.fv_graph.specs.inner.Lists.{AreLists, edges_at, group_of}
-use Rattle.fv_graph.proofs.Counts.{get_map}
+use Rattle.fv_graph.proofs.lemmas.Counts.{get_map}
 use Rattle.fv_graph.proofs.ListsLemmas.{lists_push, below_next}
 use Rattle.fv_graph.proofs.lists.lists_of.Goals as goal
 

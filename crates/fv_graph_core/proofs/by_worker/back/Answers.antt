@@ -1,6 +1,6 @@
 use Rattle.std.proofs.Common.{◌-◌, [], get_or, sym, ap, ◌∙◌, arith}
 use Rattle.fv_graph_core.specs.Ends.{back_of}
-use Rattle.fv_graph_core.proofs.Places.{back_gives, get_map}
+use Rattle.fv_graph_core.proofs.lemmas.Places.{back_gives, get_map}
 use Rattle.fv_graph_core.proofs.by_worker.back.Goals as goal
 
 pub returns : goal.returns

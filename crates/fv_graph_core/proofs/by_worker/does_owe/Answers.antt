@@ -1,7 +1,7 @@
 use Rattle.std.proofs.Common.{◌==◌, ℕ, [], ap, sym, ◌∙◌}
 use Rattle.std.specs.Global.{Vec}
 use Rattle.std.specs.List.{list_any}
-use Rattle.fv_graph_core.proofs.Places.{found_times, get_map}
+use Rattle.fv_graph_core.proofs.lemmas.Places.{found_times, get_map}
 use Rattle.fv_graph_core.proofs.by_worker.does_owe.Goals as goal
 
 pub returns : goal.returns

@@ -1,6 +1,6 @@
 use Rattle.std.proofs.Common.{set, ap, ◌∙◌, arith}
 use Rattle.std.specs.VecDeque.{deque_capacity}
-use Rattle.fv_graph_core.proofs.Places.{map_set, map_same}
+use Rattle.fv_graph_core.proofs.lemmas.Places.{map_set, map_same}
 use Rattle.fv_graph_core.proofs.by_worker.empty_deque.Goals as goal
 
 pub returns-clause-deque : goal.returns-clause-deque

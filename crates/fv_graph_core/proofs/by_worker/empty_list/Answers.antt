@@ -1,6 +1,6 @@
 use Rattle.std.proofs.Common.{set, ap, ◌∙◌, arith}
 use Rattle.std.specs.Vec.{vec_capacity}
-use Rattle.fv_graph_core.proofs.Places.{map_set, map_same}
+use Rattle.fv_graph_core.proofs.lemmas.Places.{map_set, map_same}
 use Rattle.fv_graph_core.proofs.by_worker.empty_list.Goals as goal
 
 pub returns-clause-owed : goal.returns-clause-owed

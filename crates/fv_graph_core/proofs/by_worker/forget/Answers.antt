@@ -1,7 +1,7 @@
 use Rattle.std.proofs.Common.{[], arith}
 use Rattle.std.specs.Vec.{vec_capacity}
 use Rattle.fv_graph_core.specs.Ends.{without}
-use Rattle.fv_graph_core.proofs.Places.{map_at, map_same}
+use Rattle.fv_graph_core.proofs.lemmas.Places.{map_at, map_same}
 use Rattle.fv_graph_core.proofs.by_worker.forget.Goals as goal
 
 pub returns-clause-owed : goal.returns-clause-owed

@@ -1,6 +1,6 @@
 use Rattle.std.proofs.Common.{◌++◌, [], length, ap, arith}
 use Rattle.std.specs.Vec.{vec_capacity}
-use Rattle.fv_graph_core.proofs.Places.{map_at, map_same, get_map}
+use Rattle.fv_graph_core.proofs.lemmas.Places.{map_at, map_same, get_map}
 use Rattle.fv_graph_core.proofs.by_worker.owe.Goals as goal
 
 pub append-requires : goal.append-requires

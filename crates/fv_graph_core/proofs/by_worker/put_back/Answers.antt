@@ -1,6 +1,6 @@
 use Rattle.std.proofs.Common.{◌++◌, ◌∷◌, [], arith}
 use Rattle.std.specs.VecDeque.{deque_capacity}
-use Rattle.fv_graph_core.proofs.Places.{map_at, map_same}
+use Rattle.fv_graph_core.proofs.lemmas.Places.{map_at, map_same}
 use Rattle.fv_graph_core.proofs.by_worker.put_back.Goals as goal
 
 pub returns-clause-deque : goal.returns-clause-deque

@@ -1,7 +1,7 @@
 use Rattle.std.proofs.Common.{◌-◌, [], take, sym, ap, ◌∙◌, arith}
 use Rattle.std.specs.VecDeque.{deque_capacity}
 use Rattle.fv_graph_core.specs.Ends.{but_back}
-use Rattle.fv_graph_core.proofs.Places.{map_at, map_same, but_back_take}
+use Rattle.fv_graph_core.proofs.lemmas.Places.{map_at, map_same, but_back_take}
 use Rattle.fv_graph_core.proofs.by_worker.take_back.Goals as goal
 
 pub returns-clause-deque : goal.returns-clause-deque

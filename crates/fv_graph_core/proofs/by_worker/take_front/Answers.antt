@@ -1,7 +1,7 @@
 use Rattle.std.proofs.Common.{[], ◌∙◌, arith}
 use Rattle.std.specs.VecDeque.{deque_capacity}
 use Rattle.fv_graph_core.specs.Ends.{but_front}
-use Rattle.fv_graph_core.proofs.Places.{map_at, map_same, but_front_drop}
+use Rattle.fv_graph_core.proofs.lemmas.Places.{map_at, map_same, but_front_drop}
 use Rattle.fv_graph_core.proofs.by_worker.take_front.Goals as goal
 
 pub returns-clause-deque : goal.returns-clause-deque

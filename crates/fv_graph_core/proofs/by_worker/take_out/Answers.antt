@@ -1,6 +1,6 @@
 use Rattle.std.proofs.Common.{length, sym, ap, ◌∙◌, ◌==◌, nat_lt}
 use Rattle.std.specs.List.{position, position_or_len, remove}
-use Rattle.fv_graph_core.proofs.Places.{without_at, without_none, chosen_some, chosen_none}
+use Rattle.fv_graph_core.proofs.lemmas.Places.{without_at, without_none, chosen_some, chosen_none}
 use Rattle.fv_graph_core.proofs.by_worker.take_out.Goals as goal
 
 pub returns-in-Some-clause-items : goal.returns-in-Some-clause-items

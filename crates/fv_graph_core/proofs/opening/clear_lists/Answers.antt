@@ -1,7 +1,7 @@
 use Rattle.std.proofs.Common.{◌≡◌, [], length, replicate, ap, ◌∙◌, arith, vec_len}
 use Rattle.std.proofs.lemmas.List.{length-map}
 use Rattle.fv_graph_core.specs.Kept.{owed_of}
-use Rattle.fv_graph_core.proofs.Dealing.{all_empty}
+use Rattle.fv_graph_core.proofs.lemmas.Dealing.{all_empty}
 use Rattle.fv_graph_core.proofs.opening.clear_lists.Goals as goal
 
 pub returns-clause-empty : goal.returns-clause-empty

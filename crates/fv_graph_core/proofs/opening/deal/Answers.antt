@@ -6,7 +6,7 @@ use Rattle.fv_graph.specs.Net.{need_count}
 use Rattle.fv_graph.specs.Graph.{net_of}
 use Rattle.fv_graph_core.specs.Core.{dealt}
 use Rattle.fv_graph_core.specs.Kept.{deques_of}
-use Rattle.fv_graph_core.proofs.Dealing.{dealt_next, no_longer, one_of_two}
+use Rattle.fv_graph_core.proofs.lemmas.Dealing.{dealt_next, no_longer, one_of_two}
 use Rattle.fv_graph_core.proofs.opening.deal.Goals as goal
 
 pub loop-task-preserved : goal.loop-task-preserved

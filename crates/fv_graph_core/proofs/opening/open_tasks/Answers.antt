@@ -2,7 +2,7 @@ use Rattle.std.proofs.Common.{ℕ, ◌++◌, ◌∷◌, [], map, false, sym, ap,
 use Rattle.fv_graph.specs.Net.{need_count}
 use Rattle.fv_graph.specs.Graph.{net_of}
 use Rattle.fv_graph_core.specs.Core.{numbers}
-use Rattle.fv_graph_core.proofs.Dealing.{one_more, numbers_more}
+use Rattle.fv_graph_core.proofs.lemmas.Dealing.{one_more, numbers_more}
 use Rattle.fv_graph_core.proofs.opening.open_tasks.Goals as goal
 
 pub loop-t-preserved : goal.loop-t-preserved

@@ -1,5 +1,5 @@
 use Rattle.std.proofs.Common.{replicate, ap, ◌∙◌, arith}
-use Rattle.fv_graph_core.proofs.Dealing.{all_same, set_more}
+use Rattle.fv_graph_core.proofs.lemmas.Dealing.{all_same, set_more}
 use Rattle.fv_graph_core.proofs.opening.set_all.Goals as goal
 
 pub loop-i-preserved : goal.loop-i-preserved

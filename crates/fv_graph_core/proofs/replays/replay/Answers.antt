@@ -1,7 +1,7 @@
 use Rattle.std.proofs.Common.{ap, ◌∙◌, subst}
 use Rattle.fv_graph.specs.Tasks.{Tasks}
 use Rattle.fv_graph.specs.Graph.{IsGraph, net_of}
-use Rattle.fv_graph.proofs.Graphs.{is_net}
+use Rattle.fv_graph.proofs.lemmas.Graphs.{is_net}
 use Rattle.fv_graph_core.specs.Running.{Running}
 use Rattle.fv_graph_core.proofs.Law.{core_law}
 use Rattle.fv_graph_core.proofs.Replaying.{replay_end}

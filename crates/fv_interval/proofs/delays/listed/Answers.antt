@@ -1,6 +1,6 @@
 use Rattle.std.proofs.Common.{rules}
 use Rattle.fv_interval.specs.inner.Delays.{IsRefused}
-use Rattle.fv_interval.proofs.Refused.{listed_more, refused_by}
+use Rattle.fv_interval.proofs.lemmas.Refused.{listed_more, refused_by}
 use Rattle.fv_interval.proofs.delays.listed.Goals as goal
 
 pub returns-in_err-delay-clause-refused : goal.returns-in_err-delay-clause-refused

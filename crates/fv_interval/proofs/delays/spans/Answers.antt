@@ -1,14 +1,14 @@
 use Rattle.std.proofs.Common.{◌≤◌, length, ap, ◌∙◌, subst, arith, IfOk, IfErr}
-use Rattle.fv_base.proofs.Lists.{length_table}
+use Rattle.fv_base.proofs.lemmas.Lists.{length_table}
 use Rattle.fv_num.specs.headline.Frames.{table}
 use Rattle.fv_num.specs.headline.Interval.{full}
 use Rattle.fv_diagram.specs.headline.Diagram.{inputs, size}
 use Rattle.fv_diagram.specs.Arena.{tree_of}
-use Rattle.fv_diagram.proofs.Lists.{on_ok_always}
+use Rattle.fv_diagram.proofs.lemmas.Lists.{on_ok_always}
 use Rattle.fv_interval.specs.headline.SpanHooks.{control_span}
 use Rattle.fv_interval.specs.Delays.{AreAccepted, IsDelayRefusal}
-use Rattle.fv_interval.proofs.Holds.{answers_hold, delays_hold}
-use Rattle.fv_interval.proofs.Refused.{delays_few, delays_are}
+use Rattle.fv_interval.proofs.lemmas.Holds.{answers_hold, delays_hold}
+use Rattle.fv_interval.proofs.lemmas.Refused.{delays_few, delays_are}
 use Rattle.fv_interval.proofs.delays.spans.Goals as goal
 
 pub walk-requires-clause-width : goal.walk-requires-clause-width

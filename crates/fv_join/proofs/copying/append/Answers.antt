@@ -14,7 +14,7 @@ pub images-requires-clause-room : goal.images-requires-clause-room
 images-requires-clause-room c =
     let job = c.args.job.now in
     let begun = c.in_ok-_end.ensures.ok ∙ c.in_ok-tables.ensures.ok ∙ ap (λ (d : Draft). with_tables d c.args.job.now.graph.tables) (c.in_ok-first.ensures.ok ∙ ap (with_groups c.args.builder.now) c.groups.ensures) in
-    let long = opened_long c.args.builder.now c.open_groups-2.new.self c.in_ok-first.first (length job.graph.groups) job.graph.tables c.requires.sound
+    let long = opened_long c.args.builder.now c.open_groups-2.new.self c.in_ok-first.first (length job.graph.groups) job.graph.tables c.requires.valid
     c.in_ok-first.ensures.first begun in
     let end = c.in_ok-_end.ensures.first in
     let same = ap (λ (d : Draft). length d.groups) c.in_ok-_end.ensures.ok in
@@ -31,7 +31,7 @@ images-requires-clause-room c =
 pub images-requires-clause-open : goal.images-requires-clause-open
 images-requires-clause-open c =
     let begun = c.in_ok-_end.ensures.ok ∙ c.in_ok-tables.ensures.ok ∙ ap (λ (d : Draft). with_tables d c.args.job.now.graph.tables) (c.in_ok-first.ensures.ok ∙ ap (with_groups c.args.builder.now) c.groups.ensures) in
-    opened_wait c.args.builder.now c.open_groups-2.new.self c.in_ok-first.first (length c.args.job.now.graph.groups) c.args.job.now.graph.tables c.requires.sound
+    opened_wait c.args.builder.now c.open_groups-2.new.self c.in_ok-first.first (length c.args.job.now.graph.groups) c.args.job.now.graph.tables c.requires.valid
     c.in_ok-first.ensures.first begun
 
 pub images-requires-clause-tables : goal.images-requires-clause-tables
@@ -64,7 +64,7 @@ close_groups-requires c =
     let lists : lists_in c.in_ok-lists.lists.items ≡ definitions_of g (at images) =
     c.in_ok-lists.ensures ∙ ap (λ (xs : List ℕ). definitions_of g (at xs)) c.deref.ensures.value in
     subst (CanClose c.images.new.builder c.in_ok-first.first) (sym lists)
-    (can_close g o old c.images.new.builder images c.requires.sound c.in_ok-first.ensures.first first_table under)
+    (can_close g o old c.images.new.builder images c.requires.valid c.in_ok-first.ensures.first first_table under)
 
 pub images_of-requires : goal.images_of-requires
 images_of-requires c =
@@ -89,7 +89,7 @@ returns c =
     let new : c.close_groups.new.self ≡ with_all_members c.images.new.builder c.in_ok-first.first (definitions_of g (at images)) =
     c.close_groups.ensures.all ∙ ap (with_all_members c.images.new.builder c.in_ok-first.first) lists in
     let outputs = ap₂ (λ (xs os : List ℕ). map (at xs) os) c.deref-2.ensures.value c.outputs-outputs.ensures.list in
-    let all = appended g o old c.images.new.builder images c.requires.sound c.in_ok-first.ensures.first first_table under in
+    let all = appended g o old c.images.new.builder images c.requires.valid c.in_ok-first.ensures.first first_table under in
     IfOk-weaker c.images_of.result _ (λ outs. IsAppended g c.args.inputs c.args.controls old c.close_groups.new.self outs.items)
     (λ outs e. subst (λ (d : Draft). IsAppended g c.args.inputs c.args.controls old d outs.items) (sym new)
     (subst (IsAppended g c.args.inputs c.args.controls old (with_all_members c.images.new.builder c.in_ok-first.first (definitions_of g (at images))))

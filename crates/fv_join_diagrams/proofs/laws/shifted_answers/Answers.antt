@@ -1,4 +1,4 @@
-use Rattle.fv_join_diagrams.proofs.Shifted.{shifted_answers}
+use Rattle.fv_join_diagrams.proofs.lemmas.Shifted.{shifted_answers}
 use Rattle.fv_join_diagrams.proofs.laws.shifted_answers.Goals as goal
 
 pub returns : goal.returns

@@ -1,5 +1,5 @@
 use Rattle.fv_lex.specs.headline.Bytes.{is_digit}
-use Rattle.fv_lex.proofs.Runs.{list_all-prefix_len}
+use Rattle.fv_lex.proofs.lemmas.Runs.{list_all-prefix_len}
 use Rattle.fv_lex.proofs.next.number_next.Goals as goal
 
 pub number-requires : goal.number-requires

@@ -1,5 +1,5 @@
 use Rattle.std.proofs.Common.{◌≤◌, arith, length}
-use Rattle.fv_lex.proofs.Runs.{decimal_after-first}
+use Rattle.fv_lex.proofs.lemmas.Runs.{decimal_after-first}
 use Rattle.fv_lex.proofs.scan.number.Goals as goal
 
 pub returns-then-n-gt-GREATEST_LITERAL : goal.returns-then-n-gt-GREATEST_LITERAL

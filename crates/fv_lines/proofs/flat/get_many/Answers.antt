@@ -31,6 +31,6 @@ returns-clause-samples c =
     ] in
     let one : c.copy_from_slice.new.self ≡ take b (drop cell cells) =
     c.copy_from_slice.ensures.after ∙ ap (λ (k : ℕ). take k (drop cell cells)) (let e : cell + b - cell ≡ b = omega arith in e) in
-    both_put c.args.to.now c.copy_from_slice.new.self c.copy_from_slice-2.new.self b (ap length one ∙ length-take-le b (drop cell cells) few)
-    ∙ ap₂ (λ (xs ys : List ℤ). xs ++ ys) one c.copy_from_slice-2.ensures.after
+    both_put c.args.to.now c.copy_from_slice.new.self c.copy_if_some.new.to b (ap length one ∙ length-take-le b (drop cell cells) few)
+    ∙ ap₂ (λ (xs ys : List ℤ). xs ++ ys) one c.copy_if_some.ensures
     ∙ read_two cells s j n cell b inside (omega (arith, c.requires.room, c.requires.there, size)) at cut

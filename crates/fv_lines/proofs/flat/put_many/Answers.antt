@@ -5,7 +5,7 @@ use mathlib.Core.Logic.{inl, inr}
 use borrow.Rule.Slice.PartMut.{put_mid}
 use Rattle.fv_lines.specs.Hold.{from_start}
 use Rattle.fv_lines.proofs.Pieces.{MayWrite, written, written_two, first_is, at_of}
-use Rattle.fv_lines.proofs.Parts.{replaced}
+use Rattle.fv_lines.proofs.lemmas.Parts.{replaced}
 use Rattle.fv_lines.proofs.flat.put_many.Goals as goal
 
 pub returns-clause-list : goal.returns-clause-list
@@ -31,12 +31,12 @@ returns-clause-list c =
       cut = first_is (length values) (length cells - cell) b c.min-before.ensures;
     } in
     let one : c.copy_from_slice.new.self ≡ take b values = c.copy_from_slice.ensures.after in
-    let two : c.copy_from_slice-2.new.self ≡ drop b values =
-    c.copy_from_slice-2.ensures.after ∙ take_all (length values - b) (drop b values) (omega (arith, length-drop b values)) in
+    let two : c.copy_if_some.new.to ≡ drop b values =
+    c.copy_if_some.ensures ∙ take_all (length values - b) (drop b values) (omega (arith, length-drop b values)) in
     let until : cell + (cell + b - cell) ≡ cell + b = omega arith in
     let once : put_mid cell (cell + b - cell) cells c.copy_from_slice.new.self ≡ replaced cells cell (cell + b) (take b values) =
     ap₂ (λ (xs r : List ℤ). take cell cells ++ (xs ++ r)) one (drop-drop (cell + b - cell) cell cells ∙ ap (λ (k : ℕ). drop k cells) until) in
-    let new : c.copy_from_slice-2.new.self ++ drop (length values - b) (put_mid cell (cell + b - cell) cells c.copy_from_slice.new.self)
+    let new : c.copy_if_some.new.to ++ drop (length values - b) (put_mid cell (cell + b - cell) cells c.copy_from_slice.new.self)
     ≡ written cells values cell b =
     ap₂ (λ (xs r : List ℤ). xs ++ drop (length values - b) r) two once in
     ap (λ (xs : List ℤ). take (h + c.args.index + length values) (from_start s xs)) new ∙ written_two cells values s (h + c.args.index) cell b may

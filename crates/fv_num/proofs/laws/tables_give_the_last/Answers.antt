@@ -1,4 +1,4 @@
-use Rattle.fv_num.proofs.Tables.{gives_the_last, keeps_the_rest, lists_the_last}
+use Rattle.fv_num.proofs.lemmas.Tables.{gives_the_last, keeps_the_rest, lists_the_last}
 use Rattle.fv_num.proofs.laws.tables_give_the_last.Goals as goal
 
 pub returns-clause-last : goal.returns-clause-last

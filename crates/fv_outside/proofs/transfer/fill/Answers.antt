@@ -1,4 +1,4 @@
-use Rattle.fv_outside.proofs.States.{told_before, answers_next}
+use Rattle.fv_outside.proofs.lemmas.States.{told_before, answers_next}
 use Rattle.fv_outside.proofs.transfer.fill.Goals as goal
 
 pub returns-in_err-n-clause-answers : goal.returns-in_err-n-clause-answers

@@ -1,5 +1,5 @@
 use Rattle.std.proofs.Common.{take, arith, length-take}
-use Rattle.fv_outside.proofs.States.{part_front}
+use Rattle.fv_outside.proofs.lemmas.States.{part_front}
 use Rattle.fv_outside.proofs.transfer.fill_part.Goals as goal
 
 pub returns-clause-taken : goal.returns-clause-taken

@@ -1,6 +1,6 @@
 use Rattle.std.proofs.Common.{◌≡◌, ◌∙◌, arith, refl, rules, []}
 use Rattle.std.proofs.lemmas.Result.{err_from_is_err_and}
-use Rattle.fv_outside.proofs.States.{takes_nothing, takes_then, some_then, takes_quiet, some_quiet, told_before, unfailing_later, front_is, all_is}
+use Rattle.fv_outside.proofs.lemmas.States.{takes_nothing, takes_then, some_then, takes_quiet, some_quiet, told_before, unfailing_later, front_is, all_is}
 use Rattle.fv_outside.proofs.transfer.read_up_to.Goals as goal
 
 pub chunks-init : goal.chunks-init

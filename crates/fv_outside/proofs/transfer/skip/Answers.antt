@@ -1,5 +1,5 @@
 use Rattle.std.proofs.Common.{◌++◌, ◌∙◌, arith, rules, length-append}
-use Rattle.fv_outside.proofs.States.{takes_then, told_before, answers_next}
+use Rattle.fv_outside.proofs.lemmas.States.{takes_then, told_before, answers_next}
 use Rattle.fv_outside.proofs.transfer.skip.Goals as goal
 
 pub returns-in_err-n-clause-answers : goal.returns-in_err-n-clause-answers

@@ -3,7 +3,7 @@ use Rattle.fv_outside.specs.Desk.{Appends}
 use Rattle.std.proofs.lemmas.List.{take_all, take-append-drop, append-nil}
 use Rattle.std.proofs.Math.Seq.{take-add}
 use Rattle.std.proofs.lemmas.Result.{err_from_is_err_and}
-use Rattle.fv_outside.proofs.States.{appends_then, told_before, answers_next}
+use Rattle.fv_outside.proofs.lemmas.States.{appends_then, told_before, answers_next}
 use Rattle.fv_outside.proofs.transfer.write_all.Goals as goal
 
 pub returns-in_err-at-clause-err : goal.returns-in_err-at-clause-err

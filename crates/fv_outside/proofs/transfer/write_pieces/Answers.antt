@@ -1,7 +1,7 @@
 use Rattle.std.proofs.Common.{◌++◌, ap, arith, length, length-append, take, []}
 use Rattle.std.proofs.lemmas.Result.{err_from_is_err_and}
 use Rattle.fv_outside.specs.Desk.{joined}
-use Rattle.fv_outside.proofs.States.{appends_then, joined_part, joined_room, told_before, unfailing_later}
+use Rattle.fv_outside.proofs.lemmas.States.{appends_then, joined_part, joined_room, told_before, unfailing_later}
 use Rattle.fv_outside.proofs.transfer.write_pieces.Goals as goal
 
 pub returns-in_err-write_all-clause-err : goal.returns-in_err-write_all-clause-err

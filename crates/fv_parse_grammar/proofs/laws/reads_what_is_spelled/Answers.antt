@@ -1,6 +1,6 @@
 use Rattle.std.proofs.Common.{arith}
-use Rattle.fv_parse_grammar.proofs.Sound.{program_sound}
-use Rattle.fv_parse_grammar.proofs.Complete.{program_complete, nests_among}
+use Rattle.fv_parse_grammar.proofs.lemmas.Sound.{program_sound}
+use Rattle.fv_parse_grammar.proofs.lemmas.Complete.{program_complete, nests_among}
 use Rattle.fv_parse_grammar.proofs.laws.reads_what_is_spelled.Goals as goal
 
 pub returns-clause-sound : goal.returns-clause-sound

@@ -1,7 +1,7 @@
 use Rattle.std.proofs.Common.{Some, length}
 use Rattle.std.proofs.lemmas.List.Elements.{All-pop}
 use Rattle.fv_parse_tree.specs.Arena.{trees}
-use Rattle.fv_parse_tree.proofs.Arenas.{Waits}
+use Rattle.fv_parse_tree.proofs.lemmas.Arenas.{Waits}
 use Rattle.fv_parse_tree.proofs.Progress.{folds_on}
 use Rattle.fv_parse_tree.proofs.pending.join.Goals as goal
 

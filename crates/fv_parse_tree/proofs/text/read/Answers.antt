@@ -2,7 +2,7 @@ use Rattle.std.proofs.Common.{◌∙◌, sym, arith}
 use Rattle.fv_parse_grammar.specs.declared.symbol.Items.TheVariants.{Statements}
 use Rattle.fv_parse_grammar.specs.Descent.{further, within}
 use Rattle.fv_parse_tree.specs.Arena.{trees}
-use Rattle.fv_parse_tree.proofs.Arenas.{length_trees}
+use Rattle.fv_parse_tree.proofs.lemmas.Arenas.{length_trees}
 use Rattle.fv_parse_tree.proofs.Steps.{of_front}
 use Rattle.fv_parse_tree.proofs.Endings.{stopped, ended, went_on}
 use Rattle.fv_parse_tree.proofs.text.read.Goals as goal

@@ -1,5 +1,5 @@
 use Rattle.std.proofs.Common.{Some, vec_len, sym, ◌∙◌, refl, subst, arith, slice_set}
-use Rattle.fv_ready.proofs.Moving.{Moved, moved_start, moved_one}
+use Rattle.fv_ready.proofs.lemmas.Moving.{Moved, moved_start, moved_one}
 use Rattle.fv_ready.proofs.begin.fill.Goals as goal
 
 pub loop-parcel-init : goal.loop-parcel-init

@@ -1,5 +1,5 @@
 use Rattle.std.proofs.Common.{◌≡◌, ◌≤◌, vec_len, vec_capacity}
-use Rattle.fv_ready.proofs.Moving.{Moved}
+use Rattle.fv_ready.proofs.lemmas.Moving.{Moved}
 use Rattle.fv_ready.proofs.begin.fill.Given as goal
 
 abbrev pub invariant-loop-parcel : goal.invariant-loop-parcel

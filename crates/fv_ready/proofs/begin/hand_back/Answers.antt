@@ -1,5 +1,5 @@
 use Rattle.std.proofs.Common.{length, ◌++◌, reverse, ap, sym, ◌∙◌, arith}
-use Rattle.fv_ready.proofs.Moving.{takes_some, takes_none, back_some, none_of}
+use Rattle.fv_ready.proofs.lemmas.Moving.{takes_some, takes_none, back_some, none_of}
 use Rattle.fv_ready.proofs.begin.hand_back.Goals as goal
 
 pub push_reserved-requires : goal.push_reserved-requires

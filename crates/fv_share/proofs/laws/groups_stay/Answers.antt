@@ -1,4 +1,4 @@
-use Rattle.fv_share.proofs.Groups.{groups_stay}
+use Rattle.fv_share.proofs.lemmas.Groups.{groups_stay}
 use Rattle.fv_share.proofs.laws.groups_stay.Goals as goal
 
 pub returns : goal.returns

@@ -1,4 +1,4 @@
-use Rattle.fv_share.proofs.Puts.{put_stands}
+use Rattle.fv_share.proofs.lemmas.Puts.{put_stands}
 use Rattle.fv_share.proofs.laws.puts_stand.Goals as goal
 
 pub returns : goal.returns

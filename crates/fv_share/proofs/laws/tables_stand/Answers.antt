@@ -1,4 +1,4 @@
-use Rattle.fv_share.proofs.Puts.{tables_stand}
+use Rattle.fv_share.proofs.lemmas.Puts.{tables_stand}
 use Rattle.fv_share.proofs.laws.tables_stand.Goals as goal
 
 pub returns : goal.returns

@@ -1,4 +1,4 @@
-use Rattle.fv_signal.proofs.Solutions.{solutions_are_values_on}
+use Rattle.fv_signal.proofs.lemmas.Solutions.{solutions_are_values_on}
 use Rattle.fv_signal.proofs.laws.solutions_are_values_on.Goals as goal
 
 pub returns : goal.returns

@@ -1,7 +1,7 @@
 use Rattle.std.proofs.lemmas.Result.{IfOk-weaker}
 use Rattle.fv_simplify_rules.specs.Reducible.{IsSimpler}
 use Rattle.fv_simplify_rules.specs.Rebuilt.{IsMarked}
-use Rattle.fv_simplify_rules.proofs.Twice.{simpler}
+use Rattle.fv_simplify_rules.proofs.lemmas.Twice.{simpler}
 use Rattle.fv_simplify.specs.inner.Once.{Folds, Joins}
 use Rattle.fv_simplify.proofs.simpler.simplify.Goals as goal
 

@@ -1,5 +1,5 @@
 use Rattle.fv_simplify_rules.specs.Rebuilt.{IsMarked}
-use Rattle.fv_simplify_rules.proofs.Chains.{no_more}
+use Rattle.fv_simplify_rules.proofs.lemmas.Chains.{no_more}
 use Rattle.fv_simplify_rules.proofs.laws.no_delay_is_taken_over.Goals as goal
 
 pub returns : goal.returns

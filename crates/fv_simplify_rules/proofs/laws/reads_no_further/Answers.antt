@@ -1,5 +1,5 @@
 use Rattle.fv_simplify_rules.specs.Rebuilt.{IsMarked}
-use Rattle.fv_simplify_rules.proofs.Reaches.{short_kept, reach_kept}
+use Rattle.fv_simplify_rules.proofs.lemmas.Reaches.{short_kept, reach_kept}
 use Rattle.fv_simplify_rules.proofs.laws.reads_no_further.Goals as goal
 
 pub returns : goal.returns

@@ -1,5 +1,5 @@
 use Rattle.fv_simplify_rules.specs.Rebuilt.{IsMarked}
-use Rattle.fv_simplify_rules.proofs.Chains.{folded}
+use Rattle.fv_simplify_rules.proofs.lemmas.Chains.{folded}
 use Rattle.fv_simplify_rules.proofs.laws.rebuilt_is_folded.Goals as goal
 
 pub returns : goal.returns

@@ -1,5 +1,5 @@
 use Rattle.fv_simplify_rules.specs.Rebuilt.{IsMarked}
-use Rattle.fv_simplify_rules.proofs.Twice.{simpler}
+use Rattle.fv_simplify_rules.proofs.lemmas.Twice.{simpler}
 use Rattle.fv_simplify_rules.proofs.laws.twice_is_simpler.Goals as goal
 
 pub returns : goal.returns

@@ -1,5 +1,5 @@
 use Rattle.std.proofs.Common.{ap, ◌∙◌, refl, arith}
-use Rattle.fv_split_plan.proofs.NodeLemmas.{node_read}
+use Rattle.fv_split_plan.proofs.lemmas.NodeLemmas.{node_read}
 use Rattle.fv_split.specs.inner.Cells.{table_written}
 use Rattle.fv_split.proofs.CellLemmas.{cells_more}
 use Rattle.fv_split.proofs.cells.cells_of.Goals as goal

@@ -2,7 +2,7 @@ use Rattle.std.proofs.Common.{ap, ◌∙◌, arith}
 use Rattle.fv_signal.specs.headline.Rates.{rate_at}
 use Rattle.fv_split_components.specs.headline.Reach.{at}
 use Rattle.fv_analysis.specs.headline.Stands.{node}
-use Rattle.fv_split_plan.proofs.NodeLemmas.{node_read}
+use Rattle.fv_split_plan.proofs.lemmas.NodeLemmas.{node_read}
 use Rattle.fv_split.specs.inner.Bases.{base_of}
 use Rattle.fv_split.proofs.ListLemmas.{bases_more}
 use Rattle.fv_split.proofs.kinds.bases.Goals as goal

@@ -1,7 +1,7 @@
 use Rattle.std.proofs.Common.{◌≡◌, [], ◌∷◌, ◌++◌, length, sym, ap, ◌∙◌, subst, append_assoc, append-nil, arith}
 use Rattle.std.proofs.lemmas.List.{length_push, nil_from_length}
 use Rattle.std.specs.Vec.Iter.{into_iter_items}
-use Rattle.fv_loopcode.specs.Code.{AreSound}
+use Rattle.fv_loopcode.specs.Code.{AreValid}
 use Rattle.fv_split_code.specs.Emitted.{code_in}
 use Rattle.fv_split.specs.inner.Lists.{AreCoded}
 use Rattle.fv_split.proofs.ListLemmas.{coded_more, code_behind}
@@ -13,7 +13,7 @@ code-requires c =
     let x = c.in-Some.steps in
     let whole = ap (λ xs. at.yielded ++ xs) (sym c.in-Some.ensures.steps.0) ∙ at.invariant.all ∙ c.into_iter-steps-iterator.ensures.into_iter_gives.0 in
     let read = ap (λ codes. code_in codes (length at.yielded)) (sym whole) ∙ code_behind at.yielded _ x in
-    subst (AreSound c.args.counts) (read ∙ sym c.deref.ensures.value) (c.requires (length at.yielded))
+    subst (AreValid c.args.counts) (read ∙ sym c.deref.ensures.value) (c.requires (length at.yielded))
 
 pub loop-steps-preserved : goal.loop-steps-preserved
 loop-steps-preserved c =

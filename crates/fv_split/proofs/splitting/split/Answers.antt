@@ -1,11 +1,11 @@
 use Rattle.std.proofs.Common.{◌≡◌, ◌<◌, length, map, sym, ap, ◌∙◌, subst, arith, All}
 use Rattle.fv_signal.specs.Frames.{table}
-use Rattle.fv_base.proofs.Lists.{length_table}
+use Rattle.fv_base.proofs.lemmas.Lists.{length_table}
 use Rattle.fv_signal.specs.headline.Rates.{rates}
-use Rattle.fv_loopcode.specs.Code.{AreSound}
+use Rattle.fv_loopcode.specs.Code.{AreValid}
 use Rattle.fv_analysis.specs.headline.Stands.{stands_of}
 use Rattle.fv_analysis.specs.headline.History.{history_of}
-use Rattle.fv_analysis.proofs.StandLemmas.{stands_long}
+use Rattle.fv_analysis.proofs.lemmas.StandLemmas.{stands_long}
 use Rattle.fv_split_plan.specs.Rows.{lists_of, plan_with}
 use Rattle.fv_split_plan.specs.headline.Plans.{PlanStands, PlanNames, IsPlanOf}
 use Rattle.fv_split_code.specs.Emitted.{code_in}
@@ -13,9 +13,9 @@ use Rattle.fv_split.specs.inner.Lists.{lane_of}
 use Rattle.fv_split.specs.inner.Cells.{AreCells}
 use Rattle.fv_split.specs.inner.ToldReads.{LoadsAmong, reads_of_loops}
 use Rattle.fv_split.proofs.ListLemmas.{same_bases, same_kinds, same_infos}
-use Rattle.fv_split.proofs.SplitLemmas.{rates_long, outputs_there, signals_there, held_sound}
+use Rattle.fv_split.proofs.SplitLemmas.{rates_long, outputs_there, signals_there, held_valid}
 use Rattle.fv_split.proofs.SuitLemmas.{Passes, is_survey}
-use Rattle.fv_split.proofs.PlanLemmas.{all_sound, all_named, all_owned, is_plan, with_held}
+use Rattle.fv_split.proofs.PlanLemmas.{all_valid, all_named, all_owned, is_plan, with_held}
 use Rattle.fv_split.proofs.splitting.split.Goals as goal
 use Rattle.fv_split.proofs.splitting.split.Goals.{After-survey-1, In_ok-copied}
 
@@ -85,17 +85,17 @@ all_code-requires c =
     omega (arith, c.len.ensures, c.in_ok-lanes.lanes.ok.0, c.in_ok-lanes.ensures.long, ap length c.deref-9.ensures.value, survey.placed.lanes.owned) in
     let cells : c.len-2.result ≡ length c.in_ok-cells.cells.infos.items = omega (arith, c.len-2.ensures, c.in_ok-cells.cells.infos.ok.0) in
     let steps = c.in_ok-steps.steps.items in
-    λ j. subst (λ n. AreSound (record { lanes = n; tables = c.tables.result; cells = c.len-2.result }) (code_in steps j)) (sym long)
-    (subst (λ n. AreSound (record { lanes = length p.owners.items; tables = n; cells = c.len-2.result }) (code_in steps j)) (sym c.tables.ensures)
-    (subst (λ n. AreSound (record { lanes = length p.owners.items; tables = length c.args.graph.now.tables; cells = n }) (code_in steps j)) (sym cells)
-    (all_sound _ _ _ _ _ _ _ _ survey steps c.in_ok-steps.ensures j)))
+    λ j. subst (λ n. AreValid (record { lanes = n; tables = c.tables.result; cells = c.len-2.result }) (code_in steps j)) (sym long)
+    (subst (λ n. AreValid (record { lanes = length p.owners.items; tables = n; cells = c.len-2.result }) (code_in steps j)) (sym c.tables.ensures)
+    (subst (λ n. AreValid (record { lanes = length p.owners.items; tables = length c.args.graph.now.tables; cells = n }) (code_in steps j)) (sym cells)
+    (all_valid _ _ _ _ _ _ _ _ survey steps c.in_ok-steps.ensures j)))
 
 pub code-requires : goal.code-requires
 code-requires c =
     let g = c.args.graph.now in
-    subst (λ n. AreSound n c.deref-14.result.now) (sym c.still_counts.ensures)
-    (subst (AreSound (record { lanes = 0; tables = length g.tables; cells = 0 })) (sym c.deref-14.ensures.value)
-    (held_sound g (length g.signals) c.in_ok-values.values.numbers.items c.in_ok-values.values.steps.items c.in_ok-values.ensures.1))
+    subst (λ n. AreValid n c.deref-14.result.now) (sym c.still_counts.ensures)
+    (subst (AreValid (record { lanes = 0; tables = length g.tables; cells = 0 })) (sym c.deref-14.ensures.value)
+    (held_valid g (length g.signals) c.in_ok-values.values.numbers.items c.in_ok-values.values.steps.items c.in_ok-values.ensures.1))
 
 -- the plan, with the steps of the held values for their code
 plan : (c : In_ok-copied) → Passes c.args.graph.now c.in_ok-places.places c.in_ok-stands.stands c.in_ok-bases.bases c.in_ok-kinds.kinds

@@ -1,6 +1,6 @@
 use Rattle.std.proofs.Common.{◌≡◌, ◌+◌, suc, ◌<◌, length, sym, ap, ◌∙◌, subst, arith, All}
 use Rattle.fv_split_code.specs.Emitted.{code_in}
-use Rattle.fv_split_code.proofs.AddLemmas.{code_read}
+use Rattle.fv_split_code.proofs.lemmas.AddLemmas.{code_read}
 use Rattle.fv_split.specs.inner.ToldReads.{LoadsAmong, view_of, reads_of_steps, reads_of_loops}
 use Rattle.fv_split.proofs.TellLemmas.{length_all}
 use Rattle.fv_split.proofs.told_reads.reads.Goals as goal

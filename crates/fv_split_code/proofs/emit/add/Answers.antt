@@ -3,7 +3,7 @@ use Rattle.std.specs.Prelude.{None}
 use Rattle.std.proofs.lemmas.Result.{on_ok_weaker}
 use Rattle.std.proofs.lemmas.List.{get_or_read}
 use Rattle.fv_split_code.specs.Emitted.{OwnNow}
-use Rattle.fv_split_code.proofs.AddLemmas.{adds}
+use Rattle.fv_split_code.proofs.lemmas.AddLemmas.{adds}
 use Rattle.fv_split_code.proofs.emit.add.Goals as goal
 
 pub returns : goal.returns

@@ -2,9 +2,9 @@ use Rattle.std.proofs.Common.{◌≡◌, ◌+◌, suc, length, sym, ◌∙◌, s
 use Rattle.std.proofs.lemmas.List.{get_or_read, length-set}
 use Rattle.fv_split_plan.specs.Reach.{at}
 use Rattle.fv_analysis.specs.headline.Stands.{StandsAt}
-use Rattle.fv_split_plan.proofs.NodeLemmas.{node_read}
+use Rattle.fv_split_plan.proofs.lemmas.NodeLemmas.{node_read}
 use Rattle.fv_split_code.specs.Emitted.{AllServe, AddsNow, code_in}
-use Rattle.fv_split_code.proofs.AddLemmas.{all_serve_more, all_serve_none, all_serve_begins, all_serve_ends, code_read}
+use Rattle.fv_split_code.proofs.lemmas.AddLemmas.{all_serve_more, all_serve_none, all_serve_begins, all_serve_ends, code_read}
 use Rattle.fv_split_code.proofs.emit.codes.Goals.{then-own-loops+in_ok-add, else-own-loops}
 use Rattle.fv_split_code.proofs.emit.codes.Goals as goal
 

@@ -3,7 +3,7 @@ use Rattle.std.proofs.lemmas.List.{get_or_read}
 use Rattle.std.proofs.lemmas.Result.{IfOk-weaker}
 use Rattle.fv_split_code.specs.declared.kind.Kind.TheVariants as kind
 use Rattle.fv_split_code.specs.Emits.{MeansNow, kind_of, owned_by}
-use Rattle.fv_split_code.proofs.AddLemmas.{own_other}
+use Rattle.fv_split_code.proofs.lemmas.AddLemmas.{own_other}
 use Rattle.fv_split_code.proofs.emit.own_step.Goals as goal
 
 pub returns-in_default : goal.returns-in_default

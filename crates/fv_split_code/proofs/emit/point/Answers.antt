@@ -1,7 +1,7 @@
 use Rattle.std.proofs.Common.{length, take, map, ◌∙◌, subst, ap}
 use Rattle.std.proofs.lemmas.Result.{IfOk-weaker}
 use Rattle.fv_split_plan.specs.Reach.{at}
-use Rattle.fv_analysis.proofs.RateLemmas.{at_most_four}
+use Rattle.fv_analysis.proofs.lemmas.RateLemmas.{at_most_four}
 use Rattle.fv_split_code.specs.Emits.{MeanNow, owned_by}
 use Rattle.fv_split_code.proofs.ComputeLemmas.{computes_point, stood_within, some_inputs}
 use Rattle.fv_split_code.proofs.emit.point.Goals as goal

@@ -1,8 +1,8 @@
 use Rattle.std.proofs.Common.{◌≡◌, ◌+◌, suc, [], length, sym, ap, ◌∙◌, subst, arith}
 use Rattle.fv_signal.specs.headline.Rates.{rate_in, rate_at}
-use Rattle.fv_signal.proofs.Grown.{length_grown}
+use Rattle.fv_signal.proofs.lemmas.Grown.{length_grown}
 use Rattle.fv_analysis.specs.headline.Stands.{StandsAt}
-use Rattle.fv_split_plan.proofs.NodeLemmas.{node_read}
+use Rattle.fv_split_plan.proofs.lemmas.NodeLemmas.{node_read}
 use Rattle.fv_split_code.proofs.HoldLemmas.{AreHeld, holds_if, steady_node}
 use Rattle.fv_split_code.proofs.held.held_code.Goals as goal
 

@@ -1,7 +1,7 @@
 use Rattle.std.proofs.Common.{◌≡◌, ◌<◌, [], length, sym, ap, ◌∙◌, subst, arith, All}
 use Rattle.std.proofs.lemmas.List.{get_or_read}
 use Rattle.fv_signal.specs.headline.Rates.{rate_in, rate_at}
-use Rattle.fv_signal.proofs.Grown.{length_grown}
+use Rattle.fv_signal.proofs.lemmas.Grown.{length_grown}
 use Rattle.fv_split_components.specs.headline.Reach.{at}
 use Rattle.fv_split_components.specs.Reach.{next_of}
 use Rattle.fv_split_lanes.specs.inner.Rows.{reads_of}

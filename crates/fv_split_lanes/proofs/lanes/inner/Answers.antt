@@ -5,7 +5,7 @@ use Rattle.fv_signal.specs.headline.Rates.{rate_at}
 use Rattle.fv_analysis.specs.headline.Stands.{node}
 use Rattle.fv_split_plan.specs.headline.Separated.{IsComputed}
 use Rattle.fv_split_lanes.specs.inner.Homes.{bit_at}
-use Rattle.fv_split_plan.proofs.NodeLemmas.{node_read}
+use Rattle.fv_split_plan.proofs.lemmas.NodeLemmas.{node_read}
 use Rattle.fv_split_lanes.proofs.NumberLemmas.{inner_more}
 use Rattle.fv_split_lanes.proofs.lanes.inner.Goals as goal
 

@@ -1,6 +1,6 @@
 use Rattle.std.proofs.Common.{subst, arith}
 use Rattle.fv_split_lanes.specs.inner.Marked.{Marks, DelaysTo, Delayed}
-use Rattle.fv_split_plan.proofs.NodeLemmas.{node_read}
+use Rattle.fv_split_plan.proofs.lemmas.NodeLemmas.{node_read}
 use Rattle.fv_split_lanes.proofs.MarkLemmas.{marks_more}
 use Rattle.fv_split_lanes.proofs.mark.mark_delays.Goals as goal
 

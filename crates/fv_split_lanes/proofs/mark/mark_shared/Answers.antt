@@ -4,7 +4,7 @@ use Rattle.fv_signal.specs.headline.Rates.{rate_at}
 use Rattle.fv_analysis.specs.headline.Stands.{node}
 use Rattle.fv_split_lanes.specs.inner.Readers.{reader_at}
 use Rattle.fv_split_lanes.specs.inner.Marked.{Shared, IsSharedBy}
-use Rattle.fv_split_plan.proofs.NodeLemmas.{node_read}
+use Rattle.fv_split_plan.proofs.lemmas.NodeLemmas.{node_read}
 use Rattle.fv_split_lanes.proofs.MarkLemmas.{marks_more, marks_where}
 use Rattle.fv_split_lanes.proofs.mark.mark_shared.Goals as goal
 

@@ -3,7 +3,7 @@ use Rattle.std.specs.Prelude.{◌↔◌, IsTrue}
 use Rattle.fv_analysis.specs.headline.Stands.{node}
 use Rattle.fv_split_plan.specs.Separated.{IsWritten}
 use Rattle.fv_split_lanes.specs.inner.Marked.{Written}
-use Rattle.fv_split_plan.proofs.NodeLemmas.{node_read}
+use Rattle.fv_split_plan.proofs.lemmas.NodeLemmas.{node_read}
 use Rattle.fv_split_lanes.proofs.MarkLemmas.{marks_more, marks_where}
 use Rattle.fv_split_lanes.proofs.mark.mark_written.Goals as goal
 

@@ -2,11 +2,11 @@ use Rattle.std.proofs.Common.{◌≡◌, ◌<◌, [], length, sym, ap, ◌∙◌
 use Rattle.std.proofs.lemmas.List.Elements.{All-from_get_or}
 use Rattle.fv_signal.specs.headline.Value.{Graph}
 use Rattle.fv_signal.specs.headline.Rates.{rate_in, rate_at, rates}
-use Rattle.fv_signal.proofs.Grown.{length_grown}
-use Rattle.fv_analysis.proofs.StandLemmas.{stands_long}
+use Rattle.fv_signal.proofs.lemmas.Grown.{length_grown}
+use Rattle.fv_analysis.proofs.lemmas.StandLemmas.{stands_long}
 use Rattle.fv_split_lanes.specs.inner.Homes.{bit_at}
 use Rattle.fv_split_lanes.specs.inner.Marked.{Marks, ByOne, Named}
-use Rattle.fv_split_lanes.proofs.RowLemmas.{each_same}
+use Rattle.fv_split_lanes.proofs.lemmas.RowLemmas.{each_same}
 use Rattle.fv_split_lanes.proofs.MarkLemmas.{are_marked}
 use Rattle.fv_split_lanes.proofs.mark.separated.Goals as goal
 

@@ -2,7 +2,7 @@ use Rattle.std.proofs.Common.{◌≡◌, ◌+◌, suc, length, ap, ◌∙◌, su
 use Rattle.fv_split_components.specs.Reach.{next_of}
 use Rattle.fv_split_lanes.specs.declared.reader.Reader.TheVariants.{Nobody}
 use Rattle.fv_split_lanes.specs.inner.Readers.{reader_at, AreReaders}
-use Rattle.fv_split_lanes.proofs.RowLemmas.{each_same}
+use Rattle.fv_split_lanes.proofs.lemmas.RowLemmas.{each_same}
 use Rattle.fv_split_lanes.proofs.ReaderLemmas.{no_readers, more_readers, row_inside}
 use Rattle.fv_split_lanes.proofs.reader.readers.Goals as goal
 

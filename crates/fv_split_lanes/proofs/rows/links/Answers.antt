@@ -1,7 +1,7 @@
 use Rattle.std.proofs.Common.{sym, ap, ◌∙◌, arith}
 use Rattle.fv_split_plan.specs.headline.Separated.{found_from, links_of}
-use Rattle.fv_split_plan.proofs.NodeLemmas.{node_read}
-use Rattle.fv_split_lanes.proofs.RowLemmas.{rows_more, links_are}
+use Rattle.fv_split_plan.proofs.lemmas.NodeLemmas.{node_read}
+use Rattle.fv_split_lanes.proofs.lemmas.RowLemmas.{rows_more, links_are}
 use Rattle.fv_split_lanes.proofs.rows.links.Goals as goal
 
 pub loop-s-preserved : goal.loop-s-preserved

@@ -1,11 +1,11 @@
 use Rattle.std.proofs.Common.{◌≤◌, length, map, sym, ap, ◌∙◌, arith}
 use Rattle.fv_split_components.specs.headline.Reach.{at}
 use Rattle.fv_analysis.specs.headline.Stands.{stand}
-use Rattle.fv_analysis.proofs.StandLemmas.{stands_long}
+use Rattle.fv_analysis.proofs.lemmas.StandLemmas.{stands_long}
 use Rattle.fv_split_plan.specs.headline.Separated.{operands}
 use Rattle.fv_split_lanes.specs.inner.Rows.{reads_of}
-use Rattle.fv_split_plan.proofs.NodeLemmas.{node_read, operands_within}
-use Rattle.fv_split_lanes.proofs.RowLemmas.{rows_more, reads_are}
+use Rattle.fv_split_plan.proofs.lemmas.NodeLemmas.{node_read, operands_within}
+use Rattle.fv_split_lanes.proofs.lemmas.RowLemmas.{rows_more, reads_are}
 use Rattle.fv_split_lanes.proofs.rows.reads.Goals as goal
 
 pub add_reads-requires : goal.add_reads-requires

@@ -1,4 +1,4 @@
-use Rattle.fv_split_plan.proofs.TaskLemmas.{histories_within}
+use Rattle.fv_split_plan.proofs.lemmas.TaskLemmas.{histories_within}
 use Rattle.fv_split_plan.proofs.laws.histories_within.Goals as goal
 
 pub returns : goal.returns

@@ -1,4 +1,4 @@
-use Rattle.fv_split_plan.proofs.TaskLemmas.{plans_are_apart}
+use Rattle.fv_split_plan.proofs.lemmas.TaskLemmas.{plans_are_apart}
 use Rattle.fv_split_plan.proofs.laws.plans_are_apart.Goals as goal
 
 pub returns : goal.returns

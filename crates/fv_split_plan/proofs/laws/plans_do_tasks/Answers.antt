@@ -1,4 +1,4 @@
-use Rattle.fv_split_plan.proofs.TaskLemmas.{plans_do_tasks}
+use Rattle.fv_split_plan.proofs.lemmas.TaskLemmas.{plans_do_tasks}
 use Rattle.fv_split_plan.proofs.laws.plans_do_tasks.Goals as goal
 
 pub returns : goal.returns

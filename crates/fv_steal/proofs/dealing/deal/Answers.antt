@@ -5,7 +5,7 @@ use Rattle.fv_graph.specs.Words.{passing}
 use Rattle.fv_graph.specs.Net.{need_count}
 use Rattle.fv_graph.specs.Graph.{net_of}
 use Rattle.fv_graph_core.specs.Core.{dealt}
-use Rattle.fv_graph_core.proofs.Dealing.{dealt_next, one_of_two}
+use Rattle.fv_graph_core.proofs.lemmas.Dealing.{dealt_next, one_of_two}
 use Rattle.fv_deque.specs.declared.handles.TaskDeque.{TaskDeque}
 use Rattle.fv_deque.specs.Deques.{account_of}
 use Rattle.fv_steal.specs.inner.Made.{puts_of}

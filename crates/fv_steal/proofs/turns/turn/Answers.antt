@@ -2,14 +2,14 @@ use Rattle.std.proofs.Common.{◌≡◌, ◌∙◌, ◌+◌, ◌<◌, ap, sym, s
 use Rattle.fv_outside.specs.Tasks.{times, task_count}
 use Rattle.fv_graph.specs.Graph.{Graph, net_of, feeds_of, task_of}
 use Rattle.fv_graph.specs.Wires.{IsWires, wires_of}
-use Rattle.fv_graph.proofs.Counts.{bit_same}
+use Rattle.fv_graph.proofs.lemmas.Counts.{bit_same}
 use Rattle.fv_ready_rule.specs.declared.View.{View}
 use Rattle.fv_ready_rule.specs.declared.Deed.TheVariants.{Stamped, Claimed}
 use Rattle.fv_ready_rule.specs.Rule.{done_by, noted, claims, finishes, arrives, zeroes}
 use Rattle.fv_ready.specs.Seats.{view_of}
 use Rattle.fv_ready.specs.Boards.{name_of, about_of}
-use Rattle.fv_ready.proofs.Seated.{told_graph}
-use Rattle.fv_ready.proofs.Moving.{no_items}
+use Rattle.fv_ready.proofs.lemmas.Seated.{told_graph}
+use Rattle.fv_ready.proofs.lemmas.Moving.{no_items}
 use Rattle.fv_deque.specs.Deques.{account_of}
 use Rattle.fv_steal.specs.inner.Steps.{HasArrived, PutBetween}
 use Rattle.fv_steal.proofs.Sums.{dealt_none}

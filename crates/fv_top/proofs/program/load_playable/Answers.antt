@@ -5,7 +5,7 @@ use Rattle.fv_top_report.specs.declared.refusal.Refusal.{Refusal}
 use Rattle.fv_top_rack.specs.headline.Kinds.{FileIs}
 use Rattle.fv_top_rack.specs.Kinds.{IsOfKind}
 use Rattle.fv_top.specs.headline.Promise.{HasNoProgram}
-use Rattle.fv_top_files.proofs.Loads.{stops_refused}
+use Rattle.fv_top_files.proofs.lemmas.Loads.{stops_refused}
 use Rattle.fv_top.proofs.program.load_playable.Goals as goal
 
 pub returns-in_err-playable-clause-err : goal.returns-in_err-playable-clause-err

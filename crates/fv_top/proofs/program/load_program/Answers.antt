@@ -5,7 +5,7 @@ use Rattle.fv_top_words.specs.declared.manner.ProgramKind.TheVariants.{Alone}
 use Rattle.fv_top_text.specs.headline.Program.{TextIs}
 use Rattle.fv_top_text.specs.Program.{IsRefusedText, IsOfText}
 use Rattle.fv_top.specs.headline.Promise.{HasNoProgram}
-use Rattle.fv_top_files.proofs.Loads.{stops_refused}
+use Rattle.fv_top_files.proofs.lemmas.Loads.{stops_refused}
 use Rattle.fv_top.proofs.program.load_program.Goals as goal
 
 pub returns-in_err-program-clause-err : goal.returns-in_err-program-clause-err

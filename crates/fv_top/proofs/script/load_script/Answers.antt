@@ -8,7 +8,7 @@ use Rattle.fv_top_files.specs.headline.Sources.{scripted}
 use Rattle.fv_top_report.specs.headline.Layers.{of_script}
 use Rattle.fv_top_files.specs.headline.Loading.{HasScript}
 use Rattle.fv_top.specs.inner.Promise.{IsScriptRefusal}
-use Rattle.fv_top_files.proofs.Loads.{stops_refused}
+use Rattle.fv_top_files.proofs.lemmas.Loads.{stops_refused}
 use Rattle.fv_top.proofs.Scripts.{script_is, script_refused, no_script}
 use Rattle.fv_top.proofs.script.load_script.Goals as goal
 

@@ -1,9 +1,9 @@
 use Rattle.std.proofs.Common.{◌≡◌, Err, Some, refl}
 use Rattle.std.proofs.lemmas.Result.{err_from_is_err_and}
 use Rattle.fv_outside.specs.declared.transfer.ReadError.TheVariants.{Failed}
-use Rattle.fv_outside.proofs.States.{told_before, goes_on_self, answers_next}
+use Rattle.fv_outside.proofs.lemmas.States.{told_before, goes_on_self, answers_next}
 use Rattle.fv_top_files.specs.Loading.{ReadsFile}
-use Rattle.fv_top_files.proofs.Loads.{reads_begun, cannot_later}
+use Rattle.fv_top_files.proofs.lemmas.Loads.{reads_begun, cannot_later}
 use Rattle.fv_top_files.proofs.files.read_front.Goals as goal
 
 pub returns-in_err-begin_read-clause-failed : goal.returns-in_err-begin_read-clause-failed

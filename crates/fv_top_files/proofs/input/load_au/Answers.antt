@@ -1,7 +1,7 @@
 use Rattle.std.proofs.Common.{◌≡◌, ◌∙◌, ◌++◌, List, ℕ, length, sym, ap, refl, rules}
 use Rattle.std.proofs.lemmas.Result.{err_from_is_err_and}
 use Rattle.fv_outside.specs.Role.TheVariants.{Input}
-use Rattle.fv_outside.proofs.States.{told_before}
+use Rattle.fv_outside.proofs.lemmas.States.{told_before}
 use Rattle.fv_top_files.proofs.Heads.{au_gives, open_gives, open_refused, au_stops, rest_stops}
 use Rattle.fv_top_files.proofs.input.load_au.Goals as goal
 

@@ -1,7 +1,7 @@
 use Rattle.std.proofs.Common.{◌≡◌, ◌∙◌, length, take, sym, ap, arith, rules, length-take}
 use Rattle.std.specs.Prelude.{true, false, bytes_eq, codes}
 use Rattle.std.proofs.lemmas.Result.{IfOk-weaker, IfErr-weaker}
-use Rattle.fv_outside.proofs.States.{told_before, some_then}
+use Rattle.fv_outside.proofs.lemmas.States.{told_before, some_then}
 use Rattle.fv_top_files.specs.Loading.{IsHeadRefusal}
 use Rattle.fv_top_files.proofs.Heads.{IsBegun, either_au, either_wave, gives_as, stops_earlier}
 use Rattle.fv_top_files.proofs.input.load_either.Given.{Over}

@@ -2,11 +2,11 @@ use Rattle.std.proofs.Common.{refl, inl}
 use Rattle.std.specs.Prelude.{Some}
 use Rattle.std.proofs.lemmas.Result.{err_from_is_err_and}
 use Rattle.fv_outside.specs.Role.TheVariants.{Input}
-use Rattle.fv_outside.proofs.States.{told_before, goes_on_self, answers_next}
+use Rattle.fv_outside.proofs.lemmas.States.{told_before, goes_on_self, answers_next}
 use Rattle.fv_top_files.specs.Loading.{ReadsFile}
 use Rattle.fv_top_files.specs.Loaded.{held_in}
 use Rattle.fv_top_files.proofs.Heads.{head_none, head_of_file, head_stops}
-use Rattle.fv_top_files.proofs.Loads.{reads_begun}
+use Rattle.fv_top_files.proofs.lemmas.Loads.{reads_begun}
 use Rattle.fv_top_files.proofs.input.load_head.Goals as goal
 
 pub returns-in-None-clause-headed : goal.returns-in-None-clause-headed

@@ -1,6 +1,6 @@
 use Rattle.std.proofs.Common.{◌≡◌, map, take}
 use Rattle.fv_jobs_controls.specs.headline.Labels.{controls_from}
-use Rattle.fv_top_rack.proofs.Sums.{own}
+use Rattle.fv_top_rack.proofs.lemmas.Sums.{own}
 use Rattle.fv_top_rack.specs.Reads.{programs_in}
 use Rattle.fv_top_playable.proofs.rack.controls_of.Given as goal
 

@@ -6,7 +6,7 @@ use Rattle.fv_propagate.specs.Interval.{Interval}
 use Rattle.fv_top_rack.specs.Compiled.{Compiled}
 use Rattle.fv_top_rack.specs.headline.Racks.{rack_of}
 use Rattle.fv_top_rack.specs.Reads.{programs_in}
-use Rattle.fv_top_rack.proofs.Sums.{inputs_all, outputs_all, spans_are}
+use Rattle.fv_top_rack.proofs.lemmas.Sums.{inputs_all, outputs_all, spans_are}
 use Rattle.fv_top_playable.proofs.Jobs.{all_joined, parts_in}
 use Rattle.fv_top_playable.proofs.rack.rack.Goals as goal
 

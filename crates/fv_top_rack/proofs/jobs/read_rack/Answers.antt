@@ -12,7 +12,7 @@ use Rattle.fv_top_rack.specs.headline.Racks.{rack_of}
 use Rattle.fv_top_rack.specs.Reads.{programs_in}
 use Rattle.fv_top_rack.specs.declared.programs.Read.{Read}
 use Rattle.fv_top_rack.proofs.Racks.{each_stops, few_jobs, jobs_stop, rack_is, sum_stops, width_is, width_stops}
-use Rattle.fv_top_rack.proofs.Sums.{delays_all, inputs_all, outputs_all, rack_plays, sum_all}
+use Rattle.fv_top_rack.proofs.lemmas.Sums.{delays_all, inputs_all, outputs_all, rack_plays, sum_all}
 use Rattle.fv_top_rack.proofs.jobs.read_rack.Goals as goal
 use Rattle.fv_top_rack.proofs.jobs.read_rack.Goals.{In_ok-reads}
 

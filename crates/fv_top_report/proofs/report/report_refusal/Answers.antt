@@ -3,7 +3,7 @@ use Rattle.std.specs.Prelude.{codes, decimal}
 use Rattle.std.proofs.lemmas.Result.{err_from_is_err_and}
 use Rattle.fv_outside.specs.Role.TheVariants.{Report}
 use Rattle.fv_outside.specs.Desk.{Appends}
-use Rattle.fv_outside.proofs.States.{appends_then}
+use Rattle.fv_outside.proofs.lemmas.States.{appends_then}
 use Rattle.fv_top_report.specs.headline.Lines.{spaced, row_line, refused_line}
 use Rattle.fv_top_report.specs.Fields.{listed, shown}
 use Rattle.fv_top_report.specs.Parts.{AppendsPart}

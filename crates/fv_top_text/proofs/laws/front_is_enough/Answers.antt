@@ -1,4 +1,4 @@
-use Rattle.fv_top_text.proofs.Texts.{whole_is, whole_text}
+use Rattle.fv_top_text.proofs.lemmas.Texts.{whole_is, whole_text}
 use Rattle.fv_top_text.proofs.laws.front_is_enough.Goals as goal
 
 pub returns-clause-same : goal.returns-clause-same

@@ -1,4 +1,4 @@
-use Rattle.fv_top_text.proofs.Programs.{text_once, text_some, text_others}
+use Rattle.fv_top_text.proofs.lemmas.Programs.{text_once, text_some, text_others}
 use Rattle.fv_top_text.proofs.laws.one_program.Goals as goal
 
 pub returns-clause-once : goal.returns-clause-once

@@ -10,7 +10,7 @@ use Rattle.fv_top_text.specs.Compiled.{compiled_of}
 use Rattle.fv_top_report.specs.declared.refusal.Refusal.TheVariants.{NoMemory}
 use Rattle.fv_top_text.specs.headline.Program.{delayed, first_bad, delays_in}
 use Rattle.fv_top_text.specs.Program.{IsOfText}
-use Rattle.fv_top_text.proofs.Delayed.{delays_pass, delays_stop}
+use Rattle.fv_top_text.proofs.lemmas.Delayed.{delays_pass, delays_stop}
 use Rattle.fv_top_text.proofs.text.check_delays.Goals as goal
 
 pub returns-in_err-delays-clause-err : goal.returns-in_err-delays-clause-err

@@ -4,7 +4,7 @@ use Rattle.fv_parse.specs.Trees.{program_of}
 use Rattle.fv_top_text.specs.Compiled.{compiled_of}
 use Rattle.fv_top_text.specs.headline.Program.{Spelled}
 use Rattle.fv_top_text.specs.inner.Layers.{SpellingIs, ValueIs}
-use Rattle.fv_top_text.proofs.Programs.{bytes_stop, tokens_stop, spelling_is, value_stop, value_is, width_stop, delay_stop, program_is}
+use Rattle.fv_top_text.proofs.lemmas.Programs.{bytes_stop, tokens_stop, spelling_is, value_stop, value_is, width_stop, delay_stop, program_is}
 use Rattle.fv_top_text.proofs.text.read_program.Goals as goal
 use Rattle.fv_top_text.proofs.text.read_program.Goals.{In_ok-tree, In_ok-program}
 

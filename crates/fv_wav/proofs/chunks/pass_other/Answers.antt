@@ -1,9 +1,9 @@
 use Rattle.std.proofs.Common.{◌≡◌, ◌+◌, arith, refl, []}
 use Rattle.fv_base.specs.declared.role.Role.TheVariants.{Input}
-use Rattle.fv_outside.proofs.States.{takes_nothing}
+use Rattle.fv_outside.proofs.lemmas.States.{takes_nothing}
 use Rattle.std.proofs.lemmas.Result.{err_from_is_err_and}
 use Rattle.fv_wav.specs.headline.Reading.{padded}
-use Rattle.fv_wav.proofs.Steps.{passes_both, passes_as, stops_as, stops_then, same_rest}
+use Rattle.fv_wav.proofs.lemmas.Steps.{passes_both, passes_as, stops_as, stops_then, same_rest}
 use Rattle.fv_wav.proofs.Parts.{other_size, other_end, other_is}
 use Rattle.fv_wav.proofs.ChunkKinds.{from_other_err, from_other_ok}
 use Rattle.fv_wav.proofs.chunks.pass_other.Goals as goal

@@ -1,8 +1,8 @@
 use Rattle.std.proofs.Common.{◌≡◌, ◌-◌, ◌∙◌, length, sym, ap, arith, rules}
 use Rattle.std.proofs.lemmas.Result.{err_from_is_err_and}
 use Rattle.fv_wav.specs.headline.Reading.{is_form}
-use Rattle.fv_wav.proofs.Steps.{stops_as, same_rest}
-use Rattle.fv_wav.proofs.Begun.{next_behind, none_behind, filled_behind}
+use Rattle.fv_wav.proofs.lemmas.Steps.{stops_as, same_rest}
+use Rattle.fv_wav.proofs.lemmas.Begun.{next_behind, none_behind, filled_behind}
 use Rattle.fv_wav.proofs.ChunkKinds.{wave_short, wave_not, wave_walk}
 use Rattle.fv_wav.proofs.chunks.read_form.Goals as goal
 

@@ -1,5 +1,5 @@
 use Rattle.std.proofs.Common.{arith}
-use Rattle.fv_wav.proofs.Steps.{fails_now}
+use Rattle.fv_wav.proofs.lemmas.Steps.{fails_now}
 use Rattle.fv_wav.proofs.Parts.{tag_short}
 use Rattle.fv_wav.proofs.format.read_tag.Goals as goal
 

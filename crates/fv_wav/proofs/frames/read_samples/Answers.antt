@@ -1,7 +1,7 @@
 use Rattle.std.proofs.Common.{◌≡◌, ◌*◌, ◌/◌, length, sym, arith, ap, take, ℕ, ◌∙◌}
 use Rattle.fv_base.specs.declared.role.Role.TheVariants.{Input}
 use Rattle.std.proofs.lemmas.Result.{err_from_is_err_and}
-use Rattle.fv_wav.proofs.Steps.{stops_as}
+use Rattle.fv_wav.proofs.lemmas.Steps.{stops_as}
 use Rattle.fv_wav.proofs.SampleLemmas.{next_err, next_ok, samples_first}
 use Rattle.fv_wav.proofs.frames.read_samples.Goals as goal
 

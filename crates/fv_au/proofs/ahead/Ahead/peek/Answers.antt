@@ -1,6 +1,6 @@
 use Rattle.std.proofs.Common.{◌∙◌, take, sym, ap, take_at, arith}
 use Rattle.fv_base.specs.declared.role.Role.TheVariants.{Input}
-use Rattle.fv_outside.proofs.States.{answers_next}
+use Rattle.fv_outside.proofs.lemmas.States.{answers_next}
 use Rattle.fv_au.proofs.ahead.Ahead.peek.Goals as goal
 
 pub returns-in_err-n-clause-answers : goal.returns-in_err-n-clause-answers

@@ -1,4 +1,4 @@
-use Rattle.fv_diagram.proofs.Trees.{entry_known}
+use Rattle.fv_diagram.proofs.lemmas.Trees.{entry_known}
 use Rattle.fv_diagram.proofs.arena.Diagrams.has_table_primitive.Goals as goal
 
 pub returns : goal.returns

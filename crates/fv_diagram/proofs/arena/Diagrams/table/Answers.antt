@@ -1,6 +1,6 @@
 use Rattle.std.proofs.Common.{◌++◌, ◌∷◌, [], ap, ◌∙◌, arith}
 use Rattle.fv_diagram.specs.Diagram.{AreNumbers}
-use Rattle.fv_diagram.proofs.Trees.{lists_snoc, listed_trees, listed_arena}
+use Rattle.fv_diagram.proofs.lemmas.Trees.{lists_snoc, listed_trees, listed_arena}
 use Rattle.fv_diagram.proofs.arena.Diagrams.table.Goals.{In_ok-values}
 use Rattle.fv_diagram.proofs.arena.Diagrams.table.Goals as goal
 

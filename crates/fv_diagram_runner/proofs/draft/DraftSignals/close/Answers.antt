@@ -3,7 +3,7 @@ use Rattle.std.proofs.lemmas.List.{with_items_is, drop-map}
 use Rattle.std.proofs.lemmas.List.Elements.{All-take}
 use Rattle.fv_diagram_runner.specs.inner.Code.{code_of, written, IsRegister, fed_of}
 use Rattle.fv_diagram_runner.proofs.Codes.{code_shuts}
-use Rattle.fv_diagram.proofs.Lists.{on_ok_always}
+use Rattle.fv_diagram.proofs.lemmas.Lists.{on_ok_always}
 use Rattle.fv_diagram_runner.proofs.draft.DraftSignals.close.Goals as goal
 use Rattle.fv_diagram_runner.proofs.draft.DraftSignals.close.Goals.{in-Some, in_default}
 

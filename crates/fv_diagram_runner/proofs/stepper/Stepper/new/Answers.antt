@@ -1,6 +1,6 @@
 use Rattle.std.proofs.Common.{length, All, ap, sym, ◌∙◌, ◌+◌, subst}
 use Rattle.std.proofs.lemmas.Result.{IfOk-weaker}
-use Rattle.fv_base.proofs.Lists.{length_table}
+use Rattle.fv_base.proofs.lemmas.Lists.{length_table}
 use Rattle.fv_diagram.specs.Arena.{tree_of}
 use Rattle.fv_diagram_runner.specs.inner.Code.{input_code, IsRegister}
 use Rattle.fv_diagram_runner.proofs.Starts.{inputs_below, starts}

@@ -4,7 +4,7 @@ use Rattle.fv_signal.specs.headline.Value.{value}
 use Rattle.fv_loopcode.specs.declared.step.Step.{Step}
 use Rattle.fv_split_plan.specs.headline.View.{PlanView}
 use Rattle.fv_split_plan.specs.Plans.{IsPlan}
-use Rattle.fv_split_plan.proofs.NodeLemmas.{listed}
+use Rattle.fv_split_plan.proofs.lemmas.NodeLemmas.{listed}
 use Rattle.fv_engine.proofs.Made.{begin_so}
 use Rattle.fv_engine.proofs.engine.Engine.prepare.Goals as goal
 

@@ -9,7 +9,7 @@ use Rattle.fv_loopcode.specs.Code.{HasItems}
 use Rattle.fv_split_plan.specs.Rows.{lists_of}
 use Rattle.fv_split_plan.specs.headline.View.{PlanView}
 use Rattle.fv_engine_lanes.specs.Cells.{by_number, cells_of}
-use Rattle.fv_engine_lanes.proofs.CellsSet.{here, own_at, set_number}
+use Rattle.fv_engine_lanes.proofs.lemmas.CellsSet.{here, own_at, set_number}
 use Rattle.fv_engine_lanes.proofs.loop_cells.LoopCells.exchange.Goals as goal
 
 pub index-requires : goal.index-requires

@@ -9,7 +9,7 @@ use Rattle.fv_engine_parcels.specs.Contents.{lanes_seen, list_room, AreWritersOf
 use Rattle.fv_engine_parcels.specs.declared.start.Start.{Start}
 use Rattle.fv_engine_parcels.specs.declared.content.Writers.{Writers}
 use Rattle.fv_engine_parcels.specs.declared.parcel.LoopParcel.{LoopParcel}
-use Rattle.fv_engine_parcels.proofs.Handing.{seen_written, content_seen, content_writers, Taken, taken, one_edge, drop_all, edges_push, keys_push}
+use Rattle.fv_engine_parcels.proofs.lemmas.Handing.{seen_written, content_seen, content_writers, Taken, taken, one_edge, drop_all, edges_push, keys_push}
 use Rattle.fv_engine_parcels.proofs.body.LoopBody.hand.Goals as goal
 
 pub loop-i-init : goal.loop-i-init

@@ -10,7 +10,7 @@ use Rattle.std.proofs.lemmas.List.Elements.{All-map}
 use Rattle.fv_graph.specs.Words.{passing}
 use Rattle.fv_graph.specs.Graph.{pair_at, pair_edge, chain_edge, task_at, outward}
 use Rattle.fv_lines.specs.declared.seen.Seen.{Seen}
-use Rattle.fv_engine_lanes.specs.Lanes.{state_in, AreLanesSound, LanesRest, rest_of_writer, rest_of_cells}
+use Rattle.fv_engine_lanes.specs.Lanes.{state_in, AreLanesValid, LanesRest, rest_of_writer, rest_of_cells}
 use Rattle.fv_engine_lanes.specs.Renumbered.{renumbered}
 use Rattle.fv_split_plan.specs.headline.View.{code_of}
 use Rattle.fv_loopcode.specs.declared.step.Step.{Step}
@@ -21,7 +21,7 @@ use Rattle.fv_engine_parcels.specs.inner.Turns.{Known, Before, IsPairFrom, IsCha
 use Rattle.fv_engine_parcels.specs.declared.start.Start.{Start}
 use Rattle.fv_engine_parcels.specs.declared.content.Writers.{Writers}
 use Rattle.fv_engine_parcels.specs.declared.parcel.LoopParcel.{LoopParcel}
-use Rattle.fv_engine_parcels.proofs.Edges.{outward_is, chain_is_at, pairs_of, pairs_out}
+use Rattle.fv_engine_parcels.proofs.lemmas.Edges.{outward_is, chain_is_at, pairs_of, pairs_out}
 use Rattle.fv_engine_parcels.proofs.Coming.{Came, came, Holds, holds, none_seen, vector_inside, edges_reverse, keys_reverse}
 use Rattle.fv_engine_parcels.proofs.Props.{within_prop, within_renumbered}
 use Rattle.fv_engine_parcels.proofs.Tasking.{before_of, after_of, cells_after_of, upto_next}
@@ -128,8 +128,8 @@ run_code-requires-clause-before c =
     (before_of k j v c.deref_mut.result.now.lanes.own.items c.gather.new.seen.items c.deref_mut.result.now.lanes.cells now.writers
     (subst (λ (ls : List ℕ). AreSeenOf k ls (v + 1) c.gather.new.seen.items) held.lanes c.gather.ensures.seen) now.cells)
 
-pub run_code-requires-clause-sound : goal.run_code-requires-clause-sound
-run_code-requires-clause-sound c =
+pub run_code-requires-clause-valid : goal.run_code-requires-clause-valid
+run_code-requires-clause-valid c =
     let k : Start = c.args.self.now.start in
     let j : ℕ = c.args.task.loop_no in
     let v : ℕ = c.args.task.vector in
@@ -140,7 +140,7 @@ run_code-requires-clause-sound c =
     holds k j v c.remove.result c.remove.new.self.items c.in-Writers.writers.value _ c.requires.task.0 t
     (ap (map (λ (q : LoopParcel). q.edge)) c.as_slice.ensures.value) (c.into_content.ensures.writers c.in-Writers.writers c.in-Writers.is).1 in
     let now : AreHandedOn k j v 0 c.deref_mut.result.now = subst (AreHandedOn k j v 0) (sym c.deref_mut.ensures.value) held.writers in
-    subst (λ (w : Writers). AreLanesSound w.lanes) (sym c.deref_mut-2.ensures.value) now.cells.placed
+    subst (λ (w : Writers). AreLanesValid w.lanes) (sym c.deref_mut-2.ensures.value) now.cells.placed
 
 pub run_code-requires-clause-regs : goal.run_code-requires-clause-regs
 run_code-requires-clause-regs c =
@@ -233,7 +233,7 @@ hand-requires-clause-writers c =
     let cells : AreCellsOf k j (suc v) c.run_code.new.writers.lanes.cells =
     cells_after_of k j v c.deref_mut.result.now.lanes.cells c.run_code.new.writers.lanes.cells _ now.cells
     (ap (λ (r : LanesRest). r.cells) c.run_code.ensures.kept ∙ ap (λ (w : Writers). rest_of_cells w.lanes.cells) c.deref_mut-2.ensures.value)
-    c.run_code.ensures.sound c.run_code.ensures.after in
+    c.run_code.ensures.valid c.run_code.ensures.after in
     record {
       writers = subst (λ (w : Writers). AreWritersOf k own (v + 1) w.lanes.own.items) (sym c.deref_mut-3.ensures.value)
           (subst (λ (n : ℕ). AreWritersOf k own n c.run_code.new.writers.lanes.own.items) next after);

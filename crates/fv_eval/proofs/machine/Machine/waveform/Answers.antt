@@ -3,7 +3,7 @@ use Rattle.std.proofs.lemmas.List.{take_all}
 use Rattle.fv_parse_grammar.specs.declared.form.Literal.{Literal}
 use Rattle.fv_rules.specs.headline.Steps.{waved}
 use Rattle.fv_rules.specs.headline.Rules.{flat, literal_value}
-use Rattle.fv_eval_drawing.proofs.Gathered.{as_value}
+use Rattle.fv_eval_drawing.proofs.lemmas.Gathered.{as_value}
 use Rattle.fv_eval.proofs.Received.{made_goes}
 use Rattle.fv_eval.proofs.machine.Machine.waveform.Goals as goal
 

@@ -3,7 +3,7 @@ use Rattle.fv_parse.specs.Arena.{trees}
 use Rattle.fv_parse.specs.Trees.{Parsed, tree_in, start_in}
 use Rattle.fv_eval_scopes.specs.Shows.{IsFunction}
 use Rattle.fv_eval_choosing.proofs.RuleNodes.{functions_are, not_a_function}
-use Rattle.fv_eval_patterns.proofs.Matched.{node_is}
+use Rattle.fv_eval_patterns.proofs.lemmas.Matched.{node_is}
 use Rattle.fv_eval_choosing.proofs.lookup.Definitions.functions.Goals as goal
 
 pub returns-in-Function-clause-rules : goal.returns-in-Function-clause-rules

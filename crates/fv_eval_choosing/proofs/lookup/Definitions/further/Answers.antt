@@ -1,4 +1,4 @@
-use Rattle.fv_eval_choosing.proofs.Skipped.{skips_none}
+use Rattle.fv_eval_choosing.proofs.lemmas.Skipped.{skips_none}
 use Rattle.fv_eval_choosing.proofs.lookup.Definitions.further.Goals as goal
 
 pub returns-then-left-gt0-clause-skips : goal.returns-then-left-gt0-clause-skips

@@ -1,5 +1,5 @@
 use Rattle.fv_eval_choosing.specs.Shortcuts.{AreShortcuts}
-use Rattle.fv_eval_choosing.proofs.Skipped.{HasCome}
+use Rattle.fv_eval_choosing.proofs.lemmas.Skipped.{HasCome}
 use Rattle.fv_eval_choosing.proofs.lookup.Definitions.look_up.Given as goal
 
 abbrev pub invariant-outward : goal.invariant-outward

@@ -1,4 +1,4 @@
-use Rattle.fv_eval_choosing.proofs.Skipped.{skips_on}
+use Rattle.fv_eval_choosing.proofs.lemmas.Skipped.{skips_on}
 use Rattle.fv_eval_choosing.proofs.lookup.Definitions.next.Goals as goal
 
 pub returns-else-direct-at-clause-skips : goal.returns-else-direct-at-clause-skips

@@ -2,7 +2,7 @@ use Rattle.std.proofs.Common.{◌≡◌, List, take, subst}
 use Rattle.std.proofs.lemmas.List.{take_all}
 use Rattle.fv_eval_choosing.specs.declared.by_name.Defined.{Defined}
 use Rattle.fv_eval_scopes.specs.Ways.{PassesTo}
-use Rattle.fv_eval_scopes.proofs.Outward.{leads_down}
+use Rattle.fv_eval_scopes.proofs.lemmas.Outward.{leads_down}
 use Rattle.fv_eval_choosing.proofs.Past.{IsKey, past_begins, past_more, past_skips}
 use Rattle.fv_eval_choosing.proofs.lookup.Definitions.past.Goals as goal
 

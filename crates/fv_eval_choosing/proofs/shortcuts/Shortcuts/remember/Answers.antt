@@ -1,6 +1,6 @@
 use Rattle.std.proofs.Common.{sym, subst}
 use Rattle.fv_eval_choosing.specs.Shortcuts.{AreShortcuts}
-use Rattle.fv_eval_choosing.proofs.Skipped.{shortcuts_set}
+use Rattle.fv_eval_choosing.proofs.lemmas.Skipped.{shortcuts_set}
 use Rattle.fv_eval_choosing.proofs.shortcuts.Shortcuts.remember.Goals as goal
 
 pub returns-in-Some : goal.returns-in-Some

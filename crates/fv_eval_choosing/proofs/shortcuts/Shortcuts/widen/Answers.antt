@@ -1,6 +1,6 @@
 use Rattle.std.proofs.Common.{sym, subst}
 use Rattle.fv_eval_choosing.specs.Shortcuts.{AreShortcuts}
-use Rattle.fv_eval_choosing.proofs.Skipped.{shortcuts_push, skips_none}
+use Rattle.fv_eval_choosing.proofs.lemmas.Skipped.{shortcuts_push, skips_none}
 use Rattle.fv_eval_choosing.proofs.shortcuts.Shortcuts.widen.Goals as goal
 
 pub widen-preserved : goal.widen-preserved

@@ -9,7 +9,7 @@ use Rattle.fv_diagram.specs.declared.control.ControlInfo.{ControlInfo}
 use Rattle.fv_rules.specs.headline.Steps.{is_alike, labelled}
 use Rattle.fv_eval_controls.specs.Controls.{AreLabels, Enters}
 use Rattle.fv_eval_controls.proofs.Labels.{IsFound, found, added}
-use Rattle.fv_eval_controls.proofs.Entered.{met_alike, met_unlike, met_none, numbered_inside, get_within}
+use Rattle.fv_eval_controls.proofs.lemmas.Entered.{met_alike, met_unlike, met_none, numbered_inside, get_within}
 use Rattle.fv_eval_controls.proofs.controls.Controls.enter.Goals.{After-get_index_of}
 use Rattle.fv_eval_controls.proofs.controls.Controls.enter.Goals as goal
 

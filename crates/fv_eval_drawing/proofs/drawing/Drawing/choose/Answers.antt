@@ -2,14 +2,14 @@ use Rattle.std.proofs.Common.{All, refl, sym, subst}
 use Rattle.fv_diagram.specs.Arena.{Arena}
 use Rattle.fv_eval_patterns.specs.Trials.{Recalls}
 use Rattle.fv_eval_drawing.specs.Makes.{AddsDiagrams, Canvas, IsThere}
-use Rattle.fv_eval_drawing.proofs.Remembered.{adds_extends, adds_composed, there_sound}
+use Rattle.fv_eval_drawing.proofs.Remembered.{adds_extends, adds_composed, there_valid}
 use Rattle.fv_eval_drawing.proofs.drawing.Drawing.choose.Goals as goal
 
-pub choose-requires-clause-sound : goal.choose-requires-clause-sound
-choose-requires-clause-sound c =
+pub choose-requires-clause-valid : goal.choose-requires-clause-valid
+choose-requires-clause-valid c =
     let a = c.self.inside.diagrams in
     let us = c.args.arguments.now in
-    there_sound a us c.self.invariant.0 (subst (λ (x : Canvas). All (IsThere x.diagrams) us) (sym c.self.view_is) c.requires.there)
+    there_valid a us c.self.invariant.0 (subst (λ (x : Canvas). All (IsThere x.diagrams) us) (sym c.self.view_is) c.requires.there)
 
 pub returns-clause-adds : goal.returns-clause-adds
 returns-clause-adds c =

@@ -7,7 +7,7 @@ use Rattle.fv_eval_drawing.specs.declared.lists.Link.TheVariants as link
 use Rattle.fv_eval_drawing.specs.Lists.{all_from_right, linked}
 use Rattle.fv_eval_drawing.specs.Makes.{Makes, trees_of}
 use Rattle.fv_eval_drawing.proofs.Leaves.{makes_of}
-use Rattle.fv_eval_drawing.proofs.Gathered.{AreFor, feeds, feeds_refused}
+use Rattle.fv_eval_drawing.proofs.lemmas.Gathered.{AreFor, feeds, feeds_refused}
 use Rattle.fv_eval_drawing.proofs.Fed.{not_empty, not_less, none_of, function_stays}
 use Rattle.fv_eval_drawing.proofs.drawing.Drawing.feed.Goals.{In_ok-parts}
 use Rattle.fv_eval_drawing.proofs.drawing.Drawing.feed.Goals as goal

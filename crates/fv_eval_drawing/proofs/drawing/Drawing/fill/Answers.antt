@@ -5,7 +5,7 @@ use Rattle.fv_diagram.specs.headline.Diagram.{inputs}
 use Rattle.fv_diagram.specs.Arena.{tree_of}
 use Rattle.fv_rules.specs.headline.Rules.{takes_the_right}
 use Rattle.fv_eval_drawing.specs.Lists.{Fills}
-use Rattle.fv_eval_drawing.proofs.Gathered.{fills_left, fills_right}
+use Rattle.fv_eval_drawing.proofs.lemmas.Gathered.{fills_left, fills_right}
 use Rattle.fv_eval_drawing.proofs.drawing.Drawing.fill.Goals as goal
 
 pub returns-then-takes_one-clause-fills : goal.returns-then-takes_one-clause-fills

@@ -4,7 +4,7 @@ use Rattle.fv_num.specs.declared.op.Op.TheVariants as op
 use Rattle.fv_rules.specs.headline.Rules.{gathered}
 use Rattle.fv_eval_drawing.specs.Makes.{Makes, MakesValue, trees_of}
 use Rattle.fv_eval_drawing.specs.Lists.{all_from_left}
-use Rattle.fv_eval_drawing.proofs.Gathered.{gathers_parallel, gathers_sequence, gathers_sum, gathers_product}
+use Rattle.fv_eval_drawing.proofs.lemmas.Gathered.{gathers_parallel, gathers_sequence, gathers_sum, gathers_product}
 use Rattle.fv_eval_drawing.proofs.drawing.Drawing.gather.Goals as goal
 
 pub returns-in-Parallel-clause-makes : goal.returns-in-Parallel-clause-makes

@@ -1,9 +1,9 @@
 use Rattle.std.proofs.Common.{◌≡◌, ◌<◌, IfSome, drop, length, rules, sym, subst, arith}
 use Rattle.std.specs.Bool.{MatchBool}
-use Rattle.fv_eval_scopes.proofs.Added.{adds_longer, adds_on}
+use Rattle.fv_eval_scopes.proofs.lemmas.Added.{adds_longer, adds_on}
 use Rattle.fv_eval_patterns.specs.Patterns.{IsPair}
 use Rattle.fv_eval_patterns.specs.Trials.{AddsBound, AreHalves, Binds, Misses}
-use Rattle.fv_eval_patterns.proofs.Matched.{pair_stays}
+use Rattle.fv_eval_patterns.proofs.lemmas.Matched.{pair_stays}
 use Rattle.fv_eval_patterns.proofs.Parametric.{both_bind, bound_behind, second_misses}
 use Rattle.fv_eval_patterns.proofs.all_patterns.Subjects.+binds.Goals as goal
 

@@ -1,7 +1,7 @@
 use Rattle.std.proofs.lemmas.Option.{slice_get_past}
-use Rattle.fv_eval_scopes.proofs.Added.{adds_on}
-use Rattle.fv_eval_patterns.proofs.InOrder.{patterns_begin, patterns_go_on, patterns_refuse, patterns_stop, next_of, tried_to}
-use Rattle.fv_eval_patterns.proofs.InOrder.{all_sound, sound_at}
+use Rattle.fv_eval_scopes.proofs.lemmas.Added.{adds_on}
+use Rattle.fv_eval_patterns.proofs.lemmas.InOrder.{patterns_begin, patterns_go_on, patterns_refuse, patterns_stop, next_of, tried_to}
+use Rattle.fv_eval_patterns.proofs.lemmas.InOrder.{all_valid, valid_at}
 use Rattle.fv_eval_patterns.proofs.all_patterns.Subjects.bind_all.Goals as goal
 
 pub loop-i-init : goal.loop-i-init
@@ -23,8 +23,8 @@ loop-i-preserved c =
 pub matches_one-requires-clause-value : goal.matches_one-requires-clause-value
 matches_one-requires-clause-value c =
     let next = next_of c.loop-i-test.true c.index-patterns-i.is c.if-i-values.false c.index-values-i.is in
-    let sound = all_sound c.args.diagrams.now c.loop-i.diagrams c.args.self.now.values.now c.loop-i.invariant.matches.adds c.requires.sound in
-    sound_at c.loop-i.diagrams c.args.self.now.values.now c.loop-i.i c.index-values-i.result sound next.got
+    let valid = all_valid c.args.diagrams.now c.loop-i.diagrams c.args.self.now.values.now c.loop-i.invariant.matches.adds c.requires.valid in
+    valid_at c.loop-i.diagrams c.args.self.now.values.now c.loop-i.i c.index-values-i.result valid next.got
 
 pub returns-in_err-matches_one-clause-adds : goal.returns-in_err-matches_one-clause-adds
 returns-in_err-matches_one-clause-adds c =

@@ -1,5 +1,5 @@
 use Rattle.fv_eval_patterns.specs.Trials.{Recalls}
-use Rattle.fv_eval_patterns.proofs.InOrder.{MatchesOn}
+use Rattle.fv_eval_patterns.proofs.lemmas.InOrder.{MatchesOn}
 use Rattle.fv_eval_patterns.proofs.all_patterns.Subjects.bind_all.Given as goal
 
 abbrev pub invariant-loop-i : goal.invariant-loop-i

@@ -1,7 +1,7 @@
 use Rattle.std.proofs.Common.{◌∙◌, ◌++◌, ap, sym, subst, arith}
-use Rattle.fv_eval_scopes.proofs.Added.{adds_longer}
+use Rattle.fv_eval_scopes.proofs.lemmas.Added.{adds_longer}
 use Rattle.fv_eval_patterns.specs.Trials.{Binds, Recalls}
-use Rattle.fv_eval_patterns.proofs.LongPatterns.{recalls_still}
+use Rattle.fv_eval_patterns.proofs.lemmas.LongPatterns.{recalls_still}
 use Rattle.fv_eval_patterns.proofs.Parametric.{walked, walked_to_none}
 use Rattle.fv_eval_patterns.proofs.all_patterns.Subjects.binds_plainly.Goals.{then-is_long+in_ok-keep_few, else-is_long}
 use Rattle.fv_eval_patterns.proofs.all_patterns.Subjects.binds_plainly.Goals as goal

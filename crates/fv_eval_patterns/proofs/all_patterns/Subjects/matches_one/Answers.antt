@@ -1,8 +1,8 @@
 use Rattle.std.proofs.Common.{subst}
 use Rattle.fv_eval_scopes.specs.Shows.{ShowsValue}
 use Rattle.fv_eval_patterns.specs.declared.matching.Pair.{Pair}
-use Rattle.fv_eval_patterns.specs.Patterns.{IsSound}
-use Rattle.fv_eval_patterns.proofs.LongPatterns.{recalls_still}
+use Rattle.fv_eval_patterns.specs.Patterns.{IsValid}
+use Rattle.fv_eval_patterns.proofs.lemmas.LongPatterns.{recalls_still}
 use Rattle.fv_eval_patterns.proofs.Parametric.{answers_value}
 use Rattle.fv_eval_patterns.proofs.all_patterns.Subjects.matches_one.Goals as goal
 
@@ -21,5 +21,5 @@ returns-in_ok-matches-in-Diagram-clause-matched c = λ w v bs e f h g.
     let old = c.args.diagrams.now in
     let x : Pair = record { pattern = c.args.pattern; diagram = c.in-Diagram.diagram } in
     answers_value c.args.self.now.tree.now old c.binds.new.diagrams x c.args.found.now.items c.binds.new.found.items c.in_ok-matches-in-Diagram.matches
-    c.in_ok-matches-in-Diagram.ensures.adds (subst (IsSound old) c.in-Diagram.is c.requires.value).0 c.in_ok-matches-in-Diagram.ensures.answers
+    c.in_ok-matches-in-Diagram.ensures.adds (subst (IsValid old) c.in-Diagram.is c.requires.value).0 c.in_ok-matches-in-Diagram.ensures.answers
     w v bs e f (subst (λ u. ShowsValue w u v) c.in-Diagram.is h) g

@@ -4,7 +4,7 @@ use Rattle.fv_diagram.specs.Arena.{Arena}
 use Rattle.fv_eval_patterns.specs.declared.matching.Pair.{Pair}
 use Rattle.fv_eval_patterns.specs.Patterns.{Refuses}
 use Rattle.fv_eval_patterns.specs.Trials.{Says}
-use Rattle.fv_eval_patterns.proofs.LongPatterns.{patterns_miss}
+use Rattle.fv_eval_patterns.proofs.lemmas.LongPatterns.{patterns_miss}
 use Rattle.fv_eval_patterns.proofs.all_patterns.Subjects.may_match.Goals as goal
 
 pub returns-then-not-branch-clause-misses : goal.returns-then-not-branch-clause-misses

@@ -1,7 +1,7 @@
 use Rattle.std.proofs.Common.{ap, ◌∙◌}
 use Rattle.fv_rules.specs.headline.Values.{Flat}
 use Rattle.fv_rules.specs.headline.Matching.{matched}
-use Rattle.fv_eval_patterns.proofs.Matched.{node_is}
+use Rattle.fv_eval_patterns.proofs.lemmas.Matched.{node_is}
 use Rattle.fv_eval_patterns.proofs.survey.Survey.may_match.Goals as goal
 
 pub returns-in-Binary : goal.returns-in-Binary

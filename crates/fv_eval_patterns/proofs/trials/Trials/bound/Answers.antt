@@ -3,7 +3,7 @@ use Rattle.fv_parse.specs.Trees.{Parsed}
 use Rattle.fv_diagram.specs.Arena.{Arena}
 use Rattle.fv_eval_patterns.specs.Remembered.{Remembered}
 use Rattle.fv_eval_patterns.specs.Trials.{Binds, Recalls, Tells}
-use Rattle.fv_eval_patterns.proofs.LongPatterns.{at_slot, if_some}
+use Rattle.fv_eval_patterns.proofs.lemmas.LongPatterns.{at_slot, if_some}
 use Rattle.fv_eval_patterns.proofs.trials.Trials.bound.Goals as goal
 
 pub returns-in-Binds : goal.returns-in-Binds

@@ -3,7 +3,7 @@ use Rattle.fv_eval_scopes.specs.declared.value.Binding.{Binding}
 use Rattle.fv_eval_patterns.specs.declared.trials.Outcome.TheVariants as outcomes
 use Rattle.fv_eval_patterns.specs.declared.trials.Trial.{Trial}
 use Rattle.fv_eval_patterns.specs.Trials.{Recalls, Tells}
-use Rattle.fv_eval_patterns.proofs.LongPatterns.{told_more, told_set, tells_kept}
+use Rattle.fv_eval_patterns.proofs.lemmas.LongPatterns.{told_more, told_set, tells_kept}
 use Rattle.fv_eval_patterns.proofs.trials.Trials.keep.Goals as goal
 
 pub returns-in_err-extend_from_slice : goal.returns-in_err-extend_from_slice

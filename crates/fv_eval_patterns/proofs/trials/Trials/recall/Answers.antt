@@ -1,7 +1,7 @@
 use Rattle.std.proofs.Common.{ap, sym, subst}
 use Rattle.fv_eval_patterns.specs.Remembered.{Remembered}
 use Rattle.fv_eval_patterns.specs.Trials.{Says}
-use Rattle.fv_eval_patterns.proofs.LongPatterns.{at_slot, tells_may}
+use Rattle.fv_eval_patterns.proofs.lemmas.LongPatterns.{at_slot, tells_may}
 use Rattle.fv_eval_patterns.proofs.trials.Trials.recall.Goals as goal
 
 pub returns-then-is_same : goal.returns-then-is_same

@@ -1,6 +1,6 @@
 use Rattle.std.proofs.Common.{sym, subst}
 use Rattle.fv_eval_patterns.specs.Trials.{Recalls, Tells}
-use Rattle.fv_eval_patterns.proofs.LongPatterns.{told_set, says_told}
+use Rattle.fv_eval_patterns.proofs.lemmas.LongPatterns.{told_set, says_told}
 use Rattle.fv_eval_patterns.proofs.trials.Trials.remember.Goals as goal
 
 pub returns-in-Some : goal.returns-in-Some

@@ -1,6 +1,6 @@
 use Rattle.std.proofs.Common.{sym, subst}
 use Rattle.fv_eval_patterns.specs.Trials.{Recalls}
-use Rattle.fv_eval_patterns.proofs.LongPatterns.{told_push}
+use Rattle.fv_eval_patterns.proofs.lemmas.LongPatterns.{told_push}
 use Rattle.fv_eval_patterns.proofs.trials.Trials.widen.Goals as goal
 
 pub widen-init : goal.widen-init

@@ -2,7 +2,7 @@ use Rattle.std.proofs.Common.{◌∙◌, sym, ap, rules, SFits, w32, to_z-of_z}
 use Rattle.fv_diagram.specs.headline.Diagram.{Constant}
 use Rattle.fv_diagram.specs.Arena.{tree_of}
 use Rattle.fv_rules.specs.headline.Matching.{number_or}
-use Rattle.fv_eval_scopes.proofs.Added.{still_remembers}
+use Rattle.fv_eval_scopes.proofs.lemmas.Added.{still_remembers}
 use Rattle.fv_eval_scopes.proofs.memo.Numbers.settle.Goals as goal
 
 pub returns-in_err-integer-in-Some-clause-known : goal.returns-in_err-integer-in-Some-clause-known

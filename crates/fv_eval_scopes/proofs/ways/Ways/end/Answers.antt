@@ -1,6 +1,6 @@
 use Rattle.std.proofs.Common.{refl, arith, ◌+◌}
 use Rattle.fv_eval_scopes.specs.declared.ways.Ways.{Ways}
-use Rattle.fv_eval_scopes.proofs.Outward.{ends_here}
+use Rattle.fv_eval_scopes.proofs.lemmas.Outward.{ends_here}
 use Rattle.fv_eval_scopes.proofs.ways.Ways.end.Goals as goal
 
 pub returns-clause-ok : goal.returns-clause-ok

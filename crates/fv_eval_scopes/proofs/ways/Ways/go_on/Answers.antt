@@ -2,7 +2,7 @@ use Rattle.std.proofs.Common.{refl, arith, ◌+◌}
 use Rattle.std.proofs.lemmas.Result.{err_from_is_err_and}
 use Rattle.fv_eval_scopes.specs.declared.ways.Way.{Way}
 use Rattle.fv_eval_scopes.specs.declared.ways.Ways.{Ways}
-use Rattle.fv_eval_scopes.proofs.Outward.{IsKept, ways_on, keeps_on}
+use Rattle.fv_eval_scopes.proofs.lemmas.Outward.{IsKept, ways_on, keeps_on}
 use Rattle.fv_eval_scopes.proofs.ways.Ways.go_on.Goals as goal
 
 pub returns-in_err-root-clause-err : goal.returns-in_err-root-clause-err

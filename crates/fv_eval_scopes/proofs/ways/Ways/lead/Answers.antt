@@ -1,4 +1,4 @@
-use Rattle.fv_eval_scopes.proofs.Outward.{leads_to, end_is, found_is}
+use Rattle.fv_eval_scopes.proofs.lemmas.Outward.{leads_to, end_is, found_is}
 use Rattle.fv_eval_scopes.proofs.ways.Ways.lead.Goals as goal
 
 pub returns-then-found-eq0 : goal.returns-then-found-eq0

@@ -1,7 +1,7 @@
 use Rattle.std.proofs.Common.{[], refl, sym, subst}
 use Rattle.fv_file_tape.specs.Tapes.{Streamed, files_of}
 use Rattle.fv_base.specs.declared.role.Role.TheVariants.{Output}
-use Rattle.fv_outside.proofs.States.{goes_on_self, answers_next}
+use Rattle.fv_outside.proofs.lemmas.States.{goes_on_self, answers_next}
 use Rattle.fv_file_tape.proofs.Streams.{BeginsOutput, begun_is, begin_stops, head_stops}
 use Rattle.fv_file_tape.proofs.file_tape.FileTapeTape.begin.Goals as goal
 

@@ -4,7 +4,7 @@ use Rattle.fv_pcm.specs.Coded.{samples_in}
 use Rattle.fv_pcm.specs.headline.Sizes.{frame_size}
 use Rattle.fv_file_tape.specs.Tapes.{CannotHear, IsInput, Streamed, channels_of, files_of}
 use Rattle.fv_file_tape.specs.inner.Tapes.{Misses}
-use Rattle.fv_file_tape.proofs.Heard.{room_is}
+use Rattle.fv_file_tape.proofs.lemmas.Heard.{room_is}
 use Rattle.fv_file_tape.proofs.Streams.{heard_on, heard_stops, held_on, nothing_heard, behind_fits, asked_within}
 use Rattle.fv_file_tape.proofs.file_tape.FileTapeTape.hear.Given.{Over}
 use Rattle.fv_file_tape.proofs.file_tape.FileTapeTape.hear.Goals as goal

@@ -1,6 +1,6 @@
 use Rattle.std.proofs.Common.{◌++◌, ◌/◌, length, refl, sym, ap, subst, arith}
 use Rattle.fv_file_tape.specs.Tapes.{CannotGoOn, Streamed, files_of}
-use Rattle.fv_file_tape.proofs.Heard.{room_is}
+use Rattle.fv_file_tape.proofs.lemmas.Heard.{room_is}
 use Rattle.fv_file_tape.proofs.Streams.{said_on, said_stops}
 use Rattle.fv_file_tape.proofs.file_tape.FileTapeTape.say.Goals as goal
 

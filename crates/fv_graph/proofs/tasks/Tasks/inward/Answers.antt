@@ -1,5 +1,5 @@
 use Rattle.std.proofs.Common.{ap, ◌∙◌}
-use Rattle.fv_graph.proofs.Ranges.{more_tasks, task_in}
+use Rattle.fv_graph.proofs.lemmas.Ranges.{more_tasks, task_in}
 use Rattle.fv_graph.specs.Graph.{inward}
 use Rattle.fv_graph.proofs.tasks.Tasks.inward.Goals as goal
 

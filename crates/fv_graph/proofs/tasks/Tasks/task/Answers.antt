@@ -1,5 +1,5 @@
 use Rattle.std.proofs.Common.{arith}
-use Rattle.fv_graph.proofs.Ranges.{quotient_small, task_in}
+use Rattle.fv_graph.proofs.lemmas.Ranges.{quotient_small, task_in}
 use Rattle.fv_graph.proofs.tasks.Tasks.task.Goals as goal
 
 pub overflow_cast-result : goal.overflow_cast-result

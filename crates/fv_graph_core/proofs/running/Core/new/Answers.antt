@@ -2,7 +2,7 @@ use Rattle.std.proofs.Common.{◌≡◌, ℕ, [], List, length, replicate, get_o
 use Rattle.std.proofs.lemmas.List.{length-map, length-replicate}
 use Rattle.fv_graph.specs.Graph.{Graph, net_of}
 use Rattle.fv_graph_core.specs.Core.{dealt, ready}
-use Rattle.fv_graph_core.proofs.Opens.{get_in}
+use Rattle.fv_graph_core.proofs.lemmas.Opens.{get_in}
 use Rattle.fv_graph_core.proofs.Keeps.{stored_open, running_open, opened}
 use Rattle.fv_graph_core.proofs.running.Core.new.Goals as goal
 

@@ -8,7 +8,7 @@ use Rattle.fv_graph_core.proofs.running.Core.reset.Goals as goal
 
 pub invariant_of-self : goal.invariant_of-self
 invariant_of-self c =
-    let i = c.self.inside in let s = c.self.invariant.sound in
+    let i = c.self.inside in let s = c.self.invariant.valid in
     let old = length-map i.deques.items (λ d. d.items) in let dl = s.deques_long in let od = i.deques.ok.0 in
     let many : vec_len c.clear_deques.new.deques ≡ i.workers = let a = ap length c.clear_deques.ensures.empty in
     let b = length-map c.clear_deques.new.deques.items (λ d. d.items) in
@@ -41,7 +41,7 @@ invariant_of-self c =
 
 pub returns : goal.returns
 returns c =
-    let i = c.self.inside in let s = c.self.invariant.sound in
+    let i = c.self.inside in let s = c.self.invariant.valid in
     let old = length-map i.deques.items (λ d. d.items) in let dl = s.deques_long in let od = i.deques.ok.0 in
     let many : vec_len c.clear_deques.new.deques ≡ i.workers = let a = ap length c.clear_deques.ensures.empty in
     let b = length-map c.clear_deques.new.deques.items (λ d. d.items) in

@@ -1,7 +1,7 @@
 use Rattle.std.proofs.Common.{set, sym, ap, ◌∙◌, arith, ℤ, to_z-of_z}
 use Rattle.fv_loopcode.specs.headline.Lanes.{Lane, appended}
 use Rattle.fv_lines.specs.Solo.{lanes_of, lane_at}
-use Rattle.fv_lines.proofs.Stored.{there_of, lane_is}
+use Rattle.fv_lines.proofs.lemmas.Stored.{there_of, lane_is}
 use Rattle.fv_lines.proofs.solo.Solo.append.Goals as goal
 
 pub write-requires-clause-there : goal.write-requires-clause-there

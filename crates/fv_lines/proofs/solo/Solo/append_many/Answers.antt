@@ -3,7 +3,7 @@ use Rattle.fv_loopcode.specs.Words.{argument}
 use Rattle.fv_loopcode.specs.headline.Lanes.{Lane}
 use Rattle.fv_loopcode.specs.Lanes.{all_appended}
 use Rattle.fv_lines.specs.Solo.{lanes_of}
-use Rattle.fv_lines.proofs.Stored.{there_of, lane_is}
+use Rattle.fv_lines.proofs.lemmas.Stored.{there_of, lane_is}
 use Rattle.fv_lines.proofs.solo.Solo.append_many.Goals as goal
 
 pub write_many-requires-clause-there : goal.write_many-requires-clause-there
@@ -11,7 +11,7 @@ write_many-requires-clause-there c = there_of c.args.self.now c.args.lane c.requ
 
 pub write_many-requires-clause-room : goal.write_many-requires-clause-room
 write_many-requires-clause-room c =
-    let lane = c.requires.sound.lanes c.args.lane (there_of c.args.self.now c.args.lane c.requires.there) in
+    let lane = c.requires.valid.lanes c.args.lane (there_of c.args.self.now c.args.lane c.requires.there) in
     omega (arith, c.requires.room, lane.upto, ap (λ (l : Lane). l.room) (lane_is c.args.self.now c.args.lane c.requires.there))
 
 pub returns-clause-lanes : goal.returns-clause-lanes

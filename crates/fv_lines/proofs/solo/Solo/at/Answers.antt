@@ -1,7 +1,7 @@
 use Rattle.std.proofs.Common.{rules, sym, ap, ◌∙◌, subst, w32, SFits, to_z-of_z}
 use Rattle.fv_loopcode.specs.headline.Lanes.{Lane, sample_at}
 use Rattle.fv_loopcode.specs.Lanes.{HasSample}
-use Rattle.fv_lines.proofs.Stored.{there_of, lane_is}
+use Rattle.fv_lines.proofs.lemmas.Stored.{there_of, lane_is}
 use Rattle.fv_lines.proofs.solo.Solo.at.Goals as goal
 
 pub read-requires-clause-there : goal.read-requires-clause-there

@@ -1,14 +1,14 @@
 use Rattle.std.proofs.Common.{◌≡◌, ◌+◌, ◌-◌, ◌<◌, ◌≤◌, ℕ, ℤ, List, length, take, drop, set, get_or, sym, ap, ap₂, ◌∙◌, arith, subst}
 use Rattle.std.specs.Prelude.{sum, slice_index}
-use Rattle.fv_base.proofs.Lists.{table_same}
+use Rattle.fv_base.proofs.lemmas.Lists.{table_same}
 use Rattle.fv_pool.specs.Layout.{part}
 use Rattle.fv_pool.specs.Lengths.{lengths_of}
 use Rattle.fv_lines.specs.Hold.{from_start}
 use Rattle.fv_lines.specs.Solo.{history_at, held_at, held_from, first_at}
 use Rattle.fv_lines.specs.declared.shape.LaneShape.{LaneShape}
 use Rattle.fv_lines.specs.declared.shape.LaneState.{LaneState}
-use Rattle.fv_lines.proofs.Parts.{length_part}
-use Rattle.fv_lines.proofs.Tables.{no_state, made, lane_in, same_part, same_rest, shapes_fit}
+use Rattle.fv_lines.proofs.lemmas.Parts.{length_part}
+use Rattle.fv_lines.proofs.lemmas.Tables.{no_state, made, lane_in, same_part, same_rest, shapes_fit}
 use Rattle.fv_lines.proofs.Opens.{Before, AreOpened, one_opened}
 use Rattle.fv_lines.proofs.solo.Solo.begin.Goals as goal
 
@@ -45,8 +45,8 @@ loop-lane-preserved c =
           ∙ ap (λ (xs : List ℤ). take x.history (from_start (get_or states i no_state).start xs)) before;
     }) c.loop-lane.invariant)
 
-pub returns-clause-sound : goal.returns-clause-sound
-returns-clause-sound c = record {
+pub returns-clause-valid : goal.returns-clause-valid
+returns-clause-valid c = record {
   shapes = c.requires.lists.0;
   states = c.loop-lane.auto.states ∙ c.requires.lists.1;
   written = c.loop-lane.auto.written ∙ c.requires.lists.2;

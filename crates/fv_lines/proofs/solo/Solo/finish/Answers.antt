@@ -7,9 +7,9 @@ use Rattle.fv_lines.specs.Solo.{history_at, len_at, start_at, lengths_in, shapes
 use Rattle.fv_lines.specs.declared.shape.LaneShape.{LaneShape}
 use Rattle.fv_lines.specs.declared.shape.LaneState.{LaneState}
 use Rattle.fv_lines.specs.declared.solo.Solo.{Solo}
-use Rattle.fv_lines.proofs.Parts.{length_part}
-use Rattle.fv_lines.proofs.Tables.{no_state, history_is, len_is, block_is, start_is}
-use Rattle.fv_lines.proofs.Stored.{there_of, lane_is, all_written}
+use Rattle.fv_lines.proofs.lemmas.Parts.{length_part}
+use Rattle.fv_lines.proofs.lemmas.Tables.{no_state, history_is, len_is, block_is, start_is}
+use Rattle.fv_lines.proofs.lemmas.Stored.{there_of, lane_is, all_written}
 use Rattle.fv_loopcode.specs.headline.Lanes.{Lane}
 use Rattle.fv_lines.proofs.Ends.{IsEnded, IsNext, one_ended, next_held, stays_within}
 use Rattle.fv_lines.proofs.solo.Solo.finish.Goals as goal
@@ -19,7 +19,7 @@ loop-i-preserved c =
     one_ended (record {
       there = c.loop-i-test.true;
       shapes_long = refl;
-      states_long = c.loop-i.auto.states ∙ c.requires.sound.states ∙ sym c.requires.sound.shapes;
+      states_long = c.loop-i.auto.states ∙ c.requires.valid.states ∙ sym c.requires.valid.shapes;
       shape_is = c.index-shapes-i.is;
       copied = c.advance.ensures.copied;
       ring = c.advance.ensures.ring;
@@ -31,12 +31,12 @@ advance-requires c =
     let shapes : List LaneShape = c.args.self.shapes.now in
     let x : LaneShape = c.index-shapes-i.result in
     let k : i < length shapes = c.loop-i-test.true in
-    let l : i < length (lengths_of c.args.self.layout.now) = omega (arith, k, c.requires.sound.shapes) in
-    let lane = c.requires.sound.lanes i l in
+    let l : i < length (lengths_of c.args.self.layout.now) = omega (arith, k, c.requires.valid.shapes) in
+    let lane = c.requires.valid.lanes i l in
     let history : history_at shapes i ≡ x.history = history_is shapes i x k ∙ sym (ap (λ (y : LaneShape). y.history) c.index-shapes-i.is) in
     let len : len_at shapes i ≡ x.len = len_is shapes i x k ∙ sym (ap (λ (y : LaneShape). y.len) c.index-shapes-i.is) in
     let block = block_is shapes i x k ∙ sym (ap (λ (y : LaneShape). y.block) c.index-shapes-i.is) in
-    let of_state : i < length c.loop-i.states = omega (arith, k, c.loop-i.auto.states, c.requires.sound.states, c.requires.sound.shapes) in
+    let of_state : i < length c.loop-i.states = omega (arith, k, c.loop-i.auto.states, c.requires.valid.states, c.requires.valid.shapes) in
     let start : (get_or c.loop-i.states i no_state).start ≡ start_at c.args.self.states.now i =
     sym (start_is c.loop-i.states i no_state of_state) ∙ c.loop-i.invariant.waiting i (omega arith) k in
     record {
@@ -50,8 +50,8 @@ advance-requires c =
 next : (s : Solo) (states : List LaneState) (i : ℕ) → IsSolo s → i < length (lengths_in s)
     → IsEnded (shapes_in s) s.states.now (frames_in s) states i
     → IsNext (history_at (shapes_in s) i) (len_at (shapes_in s) i) (start_at s.states.now i) (frames_in s) (start_at states i)
-next s states i sound l now =
-    let lane = sound.lanes i l in
+next s states i valid l now =
+    let lane = valid.lanes i l in
     record {
       placed = lane.placed;
       fits = omega (arith, lane.framed, lane.shaped);
@@ -61,12 +61,12 @@ next s states i sound l now =
 
 pub returns-clause-states : goal.returns-clause-states
 returns-clause-states c = λ i l.
-    let lane = c.requires.sound.lanes i l in
-    let k : i < length c.args.self.shapes.now = omega (arith, l, c.requires.sound.shapes) in
+    let lane = c.requires.valid.lanes i l in
+    let k : i < length c.args.self.shapes.now = omega (arith, l, c.requires.valid.shapes) in
     let now = c.loop-i.invariant.ended i (omega (arith, k, c.loop-i-test.false)) k in (
       lane.long,
       (λ small. omega (arith, now.copied small, lane.framed, lane.shaped)),
-      (λ large. stays_within (next c.args.self c.loop-i.states i c.requires.sound l now) large),
+      (λ large. stays_within (next c.args.self c.loop-i.states i c.requires.valid l now) large),
     )
 
 pub returns-clause-held : goal.returns-clause-held
@@ -74,9 +74,9 @@ returns-clause-held c = λ i there.
     let l : i < length (lengths_of c.args.self.layout.now) = there_of c.args.self i there in
     let ls : List ℕ = lengths_of c.args.self.layout.now in
     let cells : List ℤ = c.args.self.cells.now in
-    let lane = c.requires.sound.lanes i l in
-    let k : i < length c.args.self.shapes.now = omega (arith, l, c.requires.sound.shapes) in
+    let lane = c.requires.valid.lanes i l in
+    let k : i < length c.args.self.shapes.now = omega (arith, l, c.requires.valid.shapes) in
     let now = c.loop-i.invariant.ended i (omega (arith, k, c.loop-i-test.false)) k in
-    next_held (part ls i cells) (slice_index c.args.self.written.now i) (next c.args.self c.loop-i.states i c.requires.sound l now)
-    (length_part ls i cells l c.requires.sound.fits ∙ lane.long) (all_written c.args.self i c.requires.sound c.requires.full l)
+    next_held (part ls i cells) (slice_index c.args.self.written.now i) (next c.args.self c.loop-i.states i c.requires.valid l now)
+    (length_part ls i cells l c.requires.valid.fits ∙ lane.long) (all_written c.args.self i c.requires.valid c.requires.full l)
     ∙ ap (λ (x : Lane). drop c.args.self.frames x.items) (sym (lane_is c.args.self i there))

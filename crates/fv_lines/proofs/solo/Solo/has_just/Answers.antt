@@ -2,24 +2,24 @@ use Rattle.std.proofs.Common.{rules, ◌≡◌, ◌+◌, ◌<◌, ◌≤◌, len
 use Rattle.std.proofs.lemmas.Bool.Decides.{nat_tests}
 use Rattle.fv_loopcode.specs.headline.Lanes.{Lane}
 use Rattle.fv_loopcode.specs.Lanes.{HasJust}
-use Rattle.fv_lines.proofs.Stored.{there_of, lane_is, length_list}
+use Rattle.fv_lines.proofs.lemmas.Stored.{there_of, lane_is, length_list}
 use Rattle.fv_lines.proofs.solo.Solo.has_just.Goals as goal
 
 pub offset_bounds-self-lane : goal.offset_bounds-self-lane
 offset_bounds-self-lane c =
     let there : c.args.lane < length c.args.self.now.written.now =
-    omega (arith, c.requires.sound.written, there_of c.args.self.now c.args.lane c.requires.there) in
+    omega (arith, c.requires.valid.written, there_of c.args.self.now c.args.lane c.requires.there) in
     search rules
 
 pub bounds-self-lane : goal.bounds-self-lane
-bounds-self-lane c = omega (arith, c.requires.sound.written, there_of c.args.self.now c.args.lane c.requires.there)
+bounds-self-lane c = omega (arith, c.requires.valid.written, there_of c.args.self.now c.args.lane c.requires.there)
 
 pub returns : goal.returns
 returns c =
     let s = c.args.self.now in
     let i = c.args.lane in
     let is = lane_is s i c.requires.there in
-    let long = length_list s i c.requires.sound (there_of s i c.requires.there) in (
+    let long = length_list s i c.requires.valid (there_of s i c.requires.there) in (
       (λ t. subst (λ (l : Lane). HasJust l c.args.samples) (sym is)
           (let k : c.args.samples ≡ c.from.result = grind (arith, nat_tests, t) in omega (arith, k, long, c.from.ensures))),
       (λ h.

@@ -1,5 +1,5 @@
 use Rattle.std.proofs.Common.{length, sym, ◌∙◌}
-use Rattle.fv_base.proofs.Lists.{length_table}
+use Rattle.fv_base.proofs.lemmas.Lists.{length_table}
 use Rattle.fv_lines.specs.Solo.{lane_at, lengths_in}
 use Rattle.fv_lines.proofs.solo.Solo.len.Goals as goal
 

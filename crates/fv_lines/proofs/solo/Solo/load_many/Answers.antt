@@ -1,7 +1,7 @@
 use Rattle.std.proofs.Common.{◌+◌, sym, ap, ◌∙◌, subst}
 use Rattle.fv_loopcode.specs.headline.Lanes.{Lane, sample_at}
 use Rattle.fv_loopcode.specs.Lanes.{HasSample}
-use Rattle.fv_lines.proofs.Stored.{there_of, lane_is}
+use Rattle.fv_lines.proofs.lemmas.Stored.{there_of, lane_is}
 use Rattle.fv_lines.proofs.solo.Solo.load_many.Goals as goal
 
 pub read_many-requires-clause-there : goal.read_many-requires-clause-there

@@ -5,24 +5,24 @@ use Rattle.fv_pool.specs.Layout.{part}
 use Rattle.fv_lines.specs.Hold.{from_start}
 use Rattle.fv_lines.specs.Solo.{history_at, first_at, lengths_in, shapes_in, cells_in}
 use Rattle.fv_lines.specs.declared.solo.Solo.{Solo}
-use Rattle.fv_lines.proofs.Stored.{length_list}
+use Rattle.fv_lines.proofs.lemmas.Stored.{length_list}
 use Rattle.fv_lines.proofs.Reached.{shape_found, reached}
 use Rattle.fv_lines.proofs.solo.Solo.read.Goals as goal
 
 pub slice_bounds-get-end : goal.slice_bounds-get-end
 slice_bounds-get-end c =
-    (reached c.args.self.now c.args.lane c.index-self-i.result c.length-len.result c.requires.sound c.requires.there c.length-len.ensures).ends
+    (reached c.args.self.now c.args.lane c.index-self-i.result c.length-len.result c.requires.valid c.requires.there c.length-len.ensures).ends
 
 pub get-requires-clause-begun : goal.get-requires-clause-begun
 get-requires-clause-begun c =
-    (reached c.args.self.now c.args.lane c.index-self-i.result c.length-len.result c.requires.sound c.requires.there c.length-len.ensures).begun
+    (reached c.args.self.now c.args.lane c.index-self-i.result c.length-len.result c.requires.valid c.requires.there c.length-len.ensures).begun
 
 pub get-requires-clause-room : goal.get-requires-clause-room
 get-requires-clause-room c =
     let s : Solo = c.args.self.now in
-    let at = reached s c.args.lane c.index-self-i.result c.length-len.result c.requires.sound c.requires.there c.length-len.ensures in
-    let lane = c.requires.sound.lanes c.args.lane c.requires.there in
-    let long = length_list s c.args.lane c.requires.sound c.requires.there in
+    let at = reached s c.args.lane c.index-self-i.result c.length-len.result c.requires.valid c.requires.there c.length-len.ensures in
+    let lane = c.requires.valid.lanes c.args.lane c.requires.there in
+    let long = length_list s c.args.lane c.requires.valid c.requires.there in
     omega (arith, c.requires.sample.written, long, lane.upto, lane.framed, lane.shaped, at.history, at.len)
 
 pub returns : goal.returns
@@ -30,7 +30,7 @@ returns c =
     let f : SFits w32 c.get.result = search rules in
     let s : Solo = c.args.self.now in
     let i : ℕ = c.args.lane in
-    let at = reached s i c.index-self-i.result c.length-len.result c.requires.sound c.requires.there c.length-len.ensures in
+    let at = reached s i c.index-self-i.result c.length-len.result c.requires.valid c.requires.there c.length-len.ensures in
     let h : ℕ = (shape_found s i c.index-self-i.result).history in
     let ring : List ℤ = from_start (first_at (shapes_in s) s.states.now i) (part (lengths_in s) i (cells_in s)) in
     let k : ℕ = history_at (shapes_in s) i + slice_index s.written.now i in

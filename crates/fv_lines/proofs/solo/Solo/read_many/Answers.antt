@@ -5,32 +5,32 @@ use Rattle.fv_pool.specs.Layout.{part}
 use Rattle.fv_lines.specs.Hold.{from_start}
 use Rattle.fv_lines.specs.Solo.{history_at, first_at, lengths_in, shapes_in, cells_in}
 use Rattle.fv_lines.specs.declared.solo.Solo.{Solo}
-use Rattle.fv_lines.proofs.Stored.{length_list}
+use Rattle.fv_lines.proofs.lemmas.Stored.{length_list}
 use Rattle.fv_lines.proofs.Reached.{shape_found, origin_found, cells_found, reached}
 use Rattle.fv_lines.proofs.solo.Solo.read_many.Goals as goal
 
 pub slice_bounds-get_many-end : goal.slice_bounds-get_many-end
 slice_bounds-get_many-end c =
-    (reached c.args.self.now c.args.lane c.index-self-i.result c.length-len.result c.requires.sound c.requires.there c.length-len.ensures).ends
+    (reached c.args.self.now c.args.lane c.index-self-i.result c.length-len.result c.requires.valid c.requires.there c.length-len.ensures).ends
 
 pub get_many-requires-clause-begun : goal.get_many-requires-clause-begun
 get_many-requires-clause-begun c =
-    (reached c.args.self.now c.args.lane c.index-self-i.result c.length-len.result c.requires.sound c.requires.there c.length-len.ensures).begun
+    (reached c.args.self.now c.args.lane c.index-self-i.result c.length-len.result c.requires.valid c.requires.there c.length-len.ensures).begun
 
 pub get_many-requires-clause-there : goal.get_many-requires-clause-there
 get_many-requires-clause-there c =
-    let at = reached c.args.self.now c.args.lane c.index-self-i.result c.length-len.result c.requires.sound c.requires.there c.length-len.ensures in
+    let at = reached c.args.self.now c.args.lane c.index-self-i.result c.length-len.result c.requires.valid c.requires.there c.length-len.ensures in
     let some : 0 < length c.args.to.now = search (rules, c.if-is_empty.false, c.is_empty.ensures) in
     omega (arith, (c.requires.samples 0 some).not_before, at.history)
 
 pub get_many-requires-clause-room : goal.get_many-requires-clause-room
 get_many-requires-clause-room c =
     let s : Solo = c.args.self.now in
-    let at = reached s c.args.lane c.index-self-i.result c.length-len.result c.requires.sound c.requires.there c.length-len.ensures in
+    let at = reached s c.args.lane c.index-self-i.result c.length-len.result c.requires.valid c.requires.there c.length-len.ensures in
     let some : 0 < length c.args.to.now = search (rules, c.if-is_empty.false, c.is_empty.ensures) in
     let last = c.requires.samples (length c.args.to.now - 1) (omega (arith, some)) in
-    let lane = c.requires.sound.lanes c.args.lane c.requires.there in
-    let long = length_list s c.args.lane c.requires.sound c.requires.there in
+    let lane = c.requires.valid.lanes c.args.lane c.requires.there in
+    let long = length_list s c.args.lane c.requires.valid c.requires.there in
     omega (arith, some, last.written, long, lane.upto, lane.framed, lane.shaped, at.history, at.len)
 
 pub returns-clause-samples : goal.returns-clause-samples
@@ -38,7 +38,7 @@ returns-clause-samples c k l =
     let s : Solo = c.args.self.now in
     let i : ℕ = c.args.lane in
     let n : ℕ = length c.args.to.now in
-    let at = reached s i c.index-self-i.result c.length-len.result c.requires.sound c.requires.there c.length-len.ensures in
+    let at = reached s i c.index-self-i.result c.length-len.result c.requires.valid c.requires.there c.length-len.ensures in
     let h : ℕ = (shape_found s i c.index-self-i.result).history in
     let ring : List ℤ = from_start (first_at (shapes_in s) s.states.now i) (part (lengths_in s) i (cells_in s)) in
     let upto : ℕ = history_at (shapes_in s) i + slice_index s.written.now i in

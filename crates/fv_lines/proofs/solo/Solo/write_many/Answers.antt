@@ -8,11 +8,11 @@ use Rattle.fv_lines.proofs.solo.Solo.write_many.Goals as goal
 
 pub slice_bounds-put_many-end : goal.slice_bounds-put_many-end
 slice_bounds-put_many-end c =
-    (reached c.args.self.now c.args.lane c.index-self-i.result c.length-len.result c.requires.sound c.requires.there c.length-len.ensures).ends
+    (reached c.args.self.now c.args.lane c.index-self-i.result c.length-len.result c.requires.valid c.requires.there c.length-len.ensures).ends
 
 pub put_many-requires-clause-begun : goal.put_many-requires-clause-begun
 put_many-requires-clause-begun c =
-    (reached c.args.self.now c.args.lane c.index-self-i.result c.length-len.result c.requires.sound c.requires.there c.length-len.ensures).begun
+    (reached c.args.self.now c.args.lane c.index-self-i.result c.length-len.result c.requires.valid c.requires.there c.length-len.ensures).begun
 
 -- what was written
 wrote : (c : goal.After-self-2-1) → IsWritten c.args.self.now c.args.lane c.index-self-i.result c.length-len.result c.put_many.new.cells c.args.values.now
@@ -22,7 +22,7 @@ wrote c =
     let o : ℕ = origin_found s c.args.lane - h in
     let index : slice_index s.written.now c.args.lane ≡ c.from-index.result = omega (arith, c.from-index.ensures) in
     record {
-      sound = c.requires.sound;
+      valid = c.requires.valid;
       there = c.requires.there;
       cells = c.length-len.ensures;
       fits = omega (arith, c.requires.room);
@@ -34,14 +34,14 @@ wrote c =
 pub returns-clause-lanes : goal.returns-clause-lanes
 returns-clause-lanes c = lanes_written (wrote c)
 
-pub returns-clause-sound : goal.returns-clause-sound
-returns-clause-sound c =
+pub returns-clause-valid : goal.returns-clause-valid
+returns-clause-valid c =
     let w = wrote c in
     record {
-      shapes = c.requires.sound.shapes;
-      states = c.requires.sound.states;
+      shapes = c.requires.valid.shapes;
+      states = c.requires.valid.states;
       written = written_long w;
-      fits = omega (arith, c.requires.sound.fits, cells_long w);
-      places = c.requires.sound.places;
+      fits = omega (arith, c.requires.valid.fits, cells_long w);
+      places = c.requires.valid.places;
       lanes = lanes_stay w;
     }

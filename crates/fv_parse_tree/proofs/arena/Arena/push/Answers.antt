@@ -1,8 +1,8 @@
 use Rattle.std.proofs.Common.{◌≡◌, [], ◌∷◌, ◌++◌, length, sym, ap, subst, ◌∙◌, arith}
-use Rattle.fv_base.proofs.Arena.{below_snoc}
+use Rattle.fv_base.proofs.lemmas.Arena.{below_snoc}
 use Rattle.fv_parse_tree.specs.declared.arena.Entry.{Entry}
 use Rattle.fv_parse_tree.specs.Arena.{EntryBelow, AreOver, PartsBelow, entry_tree, trees}
-use Rattle.fv_parse_tree.proofs.Arenas.{pushed, length_trees}
+use Rattle.fv_parse_tree.proofs.lemmas.Arenas.{pushed, length_trees}
 use Rattle.fv_parse_tree.proofs.arena.Arena.push.Goals as goal
 
 pub returns : goal.returns

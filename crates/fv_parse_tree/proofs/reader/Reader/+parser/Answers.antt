@@ -3,9 +3,9 @@ use Rattle.std.proofs.lemmas.Result.{err_from_is_err_and}
 use Rattle.fv_parse_grammar.specs.declared.symbol.Inside.TheVariants as insides
 use Rattle.fv_parse_grammar.specs.Descent.{within, phrase, item, further}
 use Rattle.fv_parse_grammar.specs.declared.symbol.Items.TheVariants.{Definitions}
-use Rattle.fv_parse_grammar.proofs.Loops.{chain_stop}
+use Rattle.fv_parse_grammar.proofs.lemmas.Loops.{chain_stop}
 use Rattle.fv_parse_tree.specs.Arena.{trees}
-use Rattle.fv_parse_tree.proofs.Arenas.{inside_more, below_more}
+use Rattle.fv_parse_tree.proofs.lemmas.Arenas.{inside_more, below_more}
 use Rattle.fv_parse_tree.proofs.Progress.{goes_on, goes_done, goes_stop, gathers_on, gathers_end, gathers_fail, leans_on, leans_finish, leans_fail}
 use Rattle.fv_parse_tree.proofs.Steps.{no_nesting, descended, of_nothing, phrase_zero, phrase_right, left_fails, left_gives, right_on}
 use Rattle.fv_parse_tree.proofs.Steps.{right_off, further_is}

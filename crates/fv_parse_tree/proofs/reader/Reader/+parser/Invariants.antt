@@ -2,7 +2,7 @@ use Rattle.std.proofs.Common.{length, ◌+◌, ◌-◌, ◌*◌}
 use Rattle.fv_parse_tree.specs.Arena.{tree_at, trees}
 use Rattle.fv_parse_tree.specs.Gives.{list_of, in_front}
 use Rattle.fv_parse_grammar.specs.Descent.{run, postfix_turn, with_turn, left_turn, phrase, within, chain, item}
-use Rattle.fv_parse_grammar.proofs.Loops.{all_of}
+use Rattle.fv_parse_grammar.proofs.lemmas.Loops.{all_of}
 use Rattle.fv_parse_tree.proofs.Progress.{Goes, Gathers, Leans}
 use Rattle.fv_parse_tree.proofs.reader.Reader.+parser.Given as goal
 

@@ -1,11 +1,11 @@
 use Rattle.std.proofs.Common.{◌≡◌, ◌+◌, ◌*◌, length, vec_len, ap, sym, ◌∙◌, arith, None}
 use Rattle.fv_graph.specs.Graph.{Graph, net_of, edges_of}
-use Rattle.fv_graph_core.proofs.Opens.{length_same}
+use Rattle.fv_graph_core.proofs.lemmas.Opens.{length_same}
 use Rattle.fv_ready.specs.Begun.{first_slots, parcels_of}
 use Rattle.fv_ready.proofs.Laying.{begins_so, key_is, words_long, slots_long}
-use Rattle.fv_ready.proofs.Moving.{parcels_first}
+use Rattle.fv_ready.proofs.lemmas.Moving.{parcels_first}
 use Rattle.fv_ready.proofs.Dealing.{first_seats, are_seats, having_one}
-use Rattle.fv_ready.proofs.Seated.{edges_fit}
+use Rattle.fv_ready.proofs.lemmas.Seated.{edges_fit}
 use Rattle.fv_ready.proofs.board.Board.begin.Goals as goal
 
 pub new-requires : goal.new-requires

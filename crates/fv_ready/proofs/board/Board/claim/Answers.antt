@@ -1,14 +1,14 @@
 use Rattle.std.proofs.Common.{◌≡◌, ◌+◌, ◌==◌, [], ◌++◌, true, false, ap, sym, ◌∙◌, refl, subst, arith, eq-eqb, ne_eqb, length, length-append}
 use Rattle.fv_graph.specs.TasksBeside.{task_count}
 use Rattle.fv_graph.specs.Graph.{Graph, edges_of, inward, outward}
-use Rattle.fv_graph.proofs.Graphs.{is_wires}
+use Rattle.fv_graph.proofs.lemmas.Graphs.{is_wires}
 use Rattle.fv_ready_rule.specs.Wired.{graph_wires}
 use Rattle.fv_ready_rule.specs.Rule.{noted, places}
 use Rattle.fv_ready_rule.specs.Carried.{IsFree}
 use Rattle.fv_ready_rule.specs.declared.Deed.TheVariants.{Claimed}
-use Rattle.fv_ready_rule.proofs.Claim.{tell}
-use Rattle.fv_ready_rule.proofs.Claims.{claims_whole_at}
-use Rattle.fv_ready.proofs.Seated.{told_graph, told_below, owes_nothing, free_of, hand_none, hand_lost, won_busy, lost_slots, seat_after}
+use Rattle.fv_ready_rule.proofs.lemmas.Claim.{tell}
+use Rattle.fv_ready_rule.proofs.lemmas.Claims.{claims_whole_at}
+use Rattle.fv_ready.proofs.lemmas.Seated.{told_graph, told_below, owes_nothing, free_of, hand_none, hand_lost, won_busy, lost_slots, seat_after}
 use Rattle.fv_ready.proofs.board.Board.claim.Goals as goal
 
 pub swap-found-requires : goal.swap-found-requires

@@ -7,7 +7,7 @@ use Rattle.fv_ready_rule.specs.Rule.{claim_word}
 use Rattle.fv_ready.specs.Counted.{told_by}
 use Rattle.fv_ready.specs.Closed.{AreSlots}
 use Rattle.fv_ready.proofs.LeftOver.{whole}
-use Rattle.fv_ready.proofs.Moving.{no_items}
+use Rattle.fv_ready.proofs.lemmas.Moving.{no_items}
 use Rattle.fv_ready.proofs.Ends.{ended_as, none_taken, some_task, done_taken, are_parcels}
 use Rattle.fv_ready.proofs.board.Board.close.Goals as goal
 

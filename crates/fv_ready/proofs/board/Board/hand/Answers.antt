@@ -1,7 +1,7 @@
 use Rattle.std.proofs.Common.{◌≡◌, ◌<◌, true, Some}
 use Rattle.fv_graph.specs.TasksBeside.{times}
 use Rattle.fv_graph.specs.Graph.{outward}
-use Rattle.fv_ready.proofs.Seated.{hand_outward, may_some, exchanged}
+use Rattle.fv_ready.proofs.lemmas.Seated.{hand_outward, may_some, exchanged}
 use Rattle.fv_ready.proofs.board.Board.hand.Goals as goal
 
 pub exchange-requires-clause-edge : goal.exchange-requires-clause-edge

@@ -2,9 +2,9 @@ use Rattle.std.proofs.Common.{◌≡◌, ◌+◌, ◌-◌, ap, ◌∙◌, refl, 
 use Rattle.fv_ready_rule.specs.Wired.{graph_wires}
 use Rattle.fv_ready_rule.specs.Rule.{noted}
 use Rattle.fv_ready_rule.specs.declared.Deed.TheVariants.{Saw}
-use Rattle.fv_ready_rule.proofs.Load.{looks}
+use Rattle.fv_ready_rule.proofs.lemmas.Load.{looks}
 use Rattle.fv_ready.specs.Seats.{view_of}
-use Rattle.fv_ready.proofs.Seated.{seat_after, hand_seen}
+use Rattle.fv_ready.proofs.lemmas.Seated.{seat_after, hand_seen}
 use Rattle.fv_ready.proofs.board.Board.is_ready.Goals as goal
 
 pub load-found-requires : goal.load-found-requires

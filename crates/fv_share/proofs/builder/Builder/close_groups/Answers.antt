@@ -2,7 +2,7 @@ use Rattle.std.proofs.Common.{◌≡◌, ℕ, suc, ◌+◌, ◌<◌, List, [], �
 use Rattle.std.proofs.lemmas.List.{nil_from_length, length-map}
 use Rattle.std.specs.Vec.Iter.{into_iter_items}
 use Rattle.fv_share.specs.Drafts.{Draft, CanClose, IsDraft, IsPending, IsShut, BacksWithin, with_all_members, lists_in}
-use Rattle.fv_share.proofs.Groups.{close_first, close_rest, groups_stay}
+use Rattle.fv_share.proofs.lemmas.Groups.{close_first, close_rest, groups_stay}
 use Rattle.fv_share.proofs.builder.Builder.close_groups.Goals as goal
 
 -- what closing asks of the list that comes first

@@ -3,7 +3,7 @@ use Rattle.fv_signal.specs.declared.signal.Signal.{Signal}
 use Rattle.fv_signal.specs.headline.Value.{IsGraph}
 use Rattle.fv_share.specs.Drafts.{Draft, AreClosed, IsDraft}
 use Rattle.fv_share.specs.Inside.{draft_of}
-use Rattle.fv_share.proofs.Kept.{finished}
+use Rattle.fv_share.proofs.lemmas.Kept.{finished}
 use Rattle.fv_share.proofs.builder.Builder.finish.Goals as goal
 
 pub new-requires : goal.new-requires

@@ -1,7 +1,7 @@
 use Rattle.std.proofs.Common.{ℕ, sym, subst, arith}
 use Rattle.std.proofs.lemmas.Grind.{common_steps}
 use Rattle.fv_share.specs.Drafts.{Draft, IsDraft, IsPending, BacksWithin}
-use Rattle.fv_share.proofs.Kept.{fresh_group, pending_group}
+use Rattle.fv_share.proofs.lemmas.Kept.{fresh_group, pending_group}
 use Rattle.fv_share.proofs.builder.Builder.group.Goals as goal
 
 pub returns-clause-ok : goal.returns-clause-ok

@@ -2,7 +2,7 @@ use Rattle.std.proofs.Common.{◌≡◌, [], ◌∷◌, ◌++◌, ℤ, Vec, Glob
 use Rattle.std.proofs.lemmas.List.{map-append}
 use Rattle.fv_share.specs.Drafts.{IsDraft, lists_in}
 use Rattle.fv_share.specs.Inside.{draft_of}
-use Rattle.fv_share.proofs.Kept.{table_keeps}
+use Rattle.fv_share.proofs.lemmas.Kept.{table_keeps}
 use Rattle.fv_share.proofs.builder.Builder.keep.Goals as goal
 
 pub invariant_of-self-2 : goal.invariant_of-self-2

@@ -3,8 +3,8 @@ use Rattle.fv_signal.specs.declared.signal.Signal.{Signal}
 use Rattle.fv_share.specs.Drafts.{Draft, CanPut, IsDraft}
 use Rattle.fv_share.specs.Inside.{draft_of}
 use Rattle.fv_share.proofs.Same.{same_equal}
-use Rattle.fv_share.proofs.Puts.{got}
-use Rattle.fv_share.proofs.Kept.{put_keeps}
+use Rattle.fv_share.proofs.lemmas.Puts.{got}
+use Rattle.fv_share.proofs.lemmas.Kept.{put_keeps}
 use Rattle.fv_share.proofs.builder.Builder.node.Goals as goal
 
 pub invariant_of-self-2 : goal.invariant_of-self-2

@@ -2,7 +2,7 @@ use Rattle.std.proofs.Common.{ℕ, List, Vec, Global, sym, ap, ◌∙◌, subst,
 use Rattle.std.proofs.lemmas.List.{map-set}
 use Rattle.std.specs.Prelude.{slice_set}
 use Rattle.fv_share.specs.Drafts.{Draft, IsDraft, IsShut, with_members, lists_in}
-use Rattle.fv_share.proofs.Kept.{members_keep, shut_group}
+use Rattle.fv_share.proofs.lemmas.Kept.{members_keep, shut_group}
 use Rattle.fv_share.proofs.builder.Builder.shut.Goals as goal
 
 pub returns-clause-all : goal.returns-clause-all

@@ -2,8 +2,8 @@ use Rattle.std.proofs.Common.{◌≡◌, ◌<◌, [], length, get_or, sym, ap, �
 use Rattle.fv_signal.specs.headline.Value.{OperandsBelow}
 use Rattle.fv_share.specs.Drafts.{Draft, graph_of}
 use Rattle.fv_share.specs.Inside.{draft_of}
-use Rattle.fv_share.proofs.Puts.{got}
-use Rattle.fv_share.proofs.Kept.{earlier}
+use Rattle.fv_share.proofs.lemmas.Puts.{got}
+use Rattle.fv_share.proofs.lemmas.Kept.{earlier}
 use Rattle.fv_share.proofs.builder.Builder.signal.Goals as goal
 
 pub returns-clause-operands : goal.returns-clause-operands

@@ -1,0 +1,4 @@
+-- The lemmas that proofs of other crates take.
+pub mod StandLemmas
+pub mod RateLemmas
+pub mod HistoryLemmas

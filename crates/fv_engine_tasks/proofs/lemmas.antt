@@ -1,0 +1,4 @@
+-- The lemmas that proofs of other crates take.
+pub mod Numbers
+pub mod Opening
+pub mod Full

@@ -1,0 +1,4 @@
+-- The lemmas that proofs of other crates take.
+pub mod Grown
+pub mod Outward
+pub mod Added

@@ -1,0 +1,2 @@
+-- The lemmas that proofs of other crates take.
+pub mod Arenas

@@ -1,0 +1,5 @@
+-- The lemmas that proofs of other crates take.
+pub mod Widths
+pub mod Samples
+pub mod Again
+pub mod Following

@@ -1,0 +1,4 @@
+-- The lemmas that proofs of other crates take.
+pub mod Puts
+pub mod Kept
+pub mod Groups
