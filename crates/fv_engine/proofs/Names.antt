@@ -1,24 +1,19 @@
 -- Codes that name only what is there.
-use Rattle.std.proofs.Common.{inl, inr, ℕ, ◌<◌, List, [], ◌∷◌, refl, All, arith}
-use Rattle.std.proofs.lemmas.List.Elements.{All-cons}
+use Rattle.std.proofs.Common.{◌≡◌, ℕ, ◌<◌, List, refl, get_or, All}
 use Rattle.fv_loopcode.specs.declared.step.Step.{Step}
 use Rattle.fv_loopcode.specs.declared.step.Step.TheVariants as step
 use Rattle.fv_loopcode.specs.headline.Code.{NamesHeld, NamesInput}
 use Rattle.fv_loopcode.specs.Code.{IsWithin}
+use Rattle.fv_loopcode.proofs.lemmas.Named.{names_held_at, names_input_at}
 
 -- each step reads held values and channels that are there
 module _ (held channels : ℕ) where
-  abbrev Within : Step → Type 0
-  Within s = IsWithin held channels s
+  within_one : (s : Step) → ((k : ℕ) → s ≡ step.Held k → k < held) → ((i : ℕ) → s ≡ step.Input i → i < channels) → IsWithin held channels s
+  within_one (step.Held k) h i = h k refl
+  within_one (step.Input k) h i = i k refl
+  within_one _ h i = tt
 
   pub names_within : (steps : List Step) → ((k : ℕ) → NamesHeld steps k → k < held) → ((i : ℕ) → NamesInput steps i → i < channels)
       → All (IsWithin held channels) steps
-  names_within [] h i = λ k d l. absurd (omega (arith, l))
-  names_within (step.Number n ∷ ss) h i = All-cons Within (step.Number n) ss tt (names_within ss h i)
-  names_within (step.Held k ∷ ss) h i = All-cons Within (step.Held k) ss (h k (inl refl)) (names_within ss (λ m n. h m (inr n)) i)
-  names_within (step.Input k ∷ ss) h i = All-cons Within (step.Input k) ss (i k (inl refl)) (names_within ss h (λ m n. i m (inr n)))
-  names_within (step.Point op args ∷ ss) h i = All-cons Within (step.Point op args) ss tt (names_within ss h i)
-  names_within (step.Load lane back max ∷ ss) h i = All-cons Within (step.Load lane back max) ss tt (names_within ss h i)
-  names_within (step.Append lane value ∷ ss) h i = All-cons Within (step.Append lane value) ss tt (names_within ss h i)
-  names_within (step.Read table arg ∷ ss) h i = All-cons Within (step.Read table arg) ss tt (names_within ss h i)
-  names_within (step.Write cells args ∷ ss) h i = All-cons Within (step.Write cells args) ss tt (names_within ss h i)
+  names_within steps h i p d l =
+      within_one (get_or steps p d) (λ k e. h k (names_held_at steps p k d l e)) (λ c e. i c (names_input_at steps p c d l e))

@@ -4,8 +4,9 @@ use Rattle.std.proofs.Common.{ap₂, ◌∙◌, subst, arith, ℤ, pos}
 use Rattle.std.proofs.lemmas.List.{length_push, get_or_push, get_or_append_left, get_or-set_same, get_or-set_other, get_or_default, length-map, length-set}
 use Rattle.std.proofs.lemmas.List.{map_push}
 use Rattle.std.proofs.lemmas.List.Elements.{All-head, All-tail, All-take, All-push, All-map, All-get_or, All-nil}
+use Rattle.std.proofs.lemmas.List.Elements.{Contains-append_left, Contains-push, Contains-push_cases}
 use Rattle.std.proofs.lemmas.Bool.{cases_eq, cases_lt}
-use Rattle.std.specs.Prelude.{All}
+use Rattle.std.specs.Prelude.{All, Contains}
 use Rattle.fv_num.specs.declared.op.Op.{Op}
 use Rattle.fv_num.specs.headline.Words.{argument, apply_of, inputs_of}
 use Rattle.fv_num.specs.headline.Frames.{Frame, Stream}
@@ -44,14 +45,10 @@ length_passed held input index p (y ∷ ys) =
 
 -- steps that load, append and write nothing leave the state as it is
 still_state : (held input : ℕ → ℤ) (index : ℕ) (p : Pass) (x : Step) → IsStill x → (stepped held input index p x).state ≡ p.state
-still_state held input index p (step.Number n) h = refl
-still_state held input index p (step.Held k) h = refl
-still_state held input index p (step.Input i) h = refl
-still_state held input index p (step.Point op args) h = refl
 still_state held input index p (step.Load lane back max) h = absurd h
 still_state held input index p (step.Append lane value) h = absurd h
-still_state held input index p (step.Read table arg) h = refl
 still_state held input index p (step.Write cells args) h = absurd h
+still_state held input index p _ h = refl
 
 still_passed : (held input : ℕ → ℤ) (index : ℕ) (p : Pass) (xs : List Step) → All IsStill xs → (passed held input index p xs).state ≡ p.state
 still_passed held input index p [] h = refl
@@ -67,52 +64,6 @@ registers_push tables controls xs x h =
     ∙ ap (λ (state : State). held_registers tables controls xs
     ++ step_value controls (λ i. pos 0) (finds state 0) (argument (held_registers tables controls xs)) x ∷ [])
     (still_passed controls (λ i. pos 0) 0 (opening (tables_alone tables)) xs h)
-
--- ---- names
-
-held_front : (xs : List Step) (x : Step) (k : ℕ) → NamesHeld xs k → NamesHeld (xs ++ x ∷ []) k
-held_front [] x k h = absurd h
-held_front (step.Number n ∷ ss) x k h = held_front ss x k h
-held_front (step.Held m ∷ ss) x k h = elim h [ inl e ↦ inl e | inr r ↦ inr (held_front ss x k r) ]
-held_front (step.Input i ∷ ss) x k h = held_front ss x k h
-held_front (step.Point op args ∷ ss) x k h = held_front ss x k h
-held_front (step.Load lane back max ∷ ss) x k h = held_front ss x k h
-held_front (step.Append lane value ∷ ss) x k h = held_front ss x k h
-held_front (step.Read table arg ∷ ss) x k h = held_front ss x k h
-held_front (step.Write cells args ∷ ss) x k h = held_front ss x k h
-
-held_last : (xs : List Step) (x : Step) (k : ℕ) → NamesHeld (x ∷ []) k → NamesHeld (xs ++ x ∷ []) k
-held_last [] x k h = h
-held_last (step.Number n ∷ ss) x k h = held_last ss x k h
-held_last (step.Held m ∷ ss) x k h = inr (held_last ss x k h)
-held_last (step.Input i ∷ ss) x k h = held_last ss x k h
-held_last (step.Point op args ∷ ss) x k h = held_last ss x k h
-held_last (step.Load lane back max ∷ ss) x k h = held_last ss x k h
-held_last (step.Append lane value ∷ ss) x k h = held_last ss x k h
-held_last (step.Read table arg ∷ ss) x k h = held_last ss x k h
-held_last (step.Write cells args ∷ ss) x k h = held_last ss x k h
-
-held_split : (xs : List Step) (x : Step) (k : ℕ) → NamesHeld (xs ++ x ∷ []) k → NamesHeld xs k ⊎ NamesHeld (x ∷ []) k
-held_split [] x k h = inr h
-held_split (step.Number n ∷ ss) x k h = held_split ss x k h
-held_split (step.Held m ∷ ss) x k h = elim h [ inl e ↦ inl (inl e) | inr r ↦ elim (held_split ss x k r) [ inl y ↦ inl (inr y) | inr y ↦ inr y ] ]
-held_split (step.Input i ∷ ss) x k h = held_split ss x k h
-held_split (step.Point op args ∷ ss) x k h = held_split ss x k h
-held_split (step.Load lane back max ∷ ss) x k h = held_split ss x k h
-held_split (step.Append lane value ∷ ss) x k h = held_split ss x k h
-held_split (step.Read table arg ∷ ss) x k h = held_split ss x k h
-held_split (step.Write cells args ∷ ss) x k h = held_split ss x k h
-
-input_split : (xs : List Step) (x : Step) (k : ℕ) → NamesInput (xs ++ x ∷ []) k → NamesInput xs k ⊎ NamesInput (x ∷ []) k
-input_split [] x k h = inr h
-input_split (step.Number n ∷ ss) x k h = input_split ss x k h
-input_split (step.Held m ∷ ss) x k h = input_split ss x k h
-input_split (step.Input i ∷ ss) x k h = elim h [ inl e ↦ inl (inl e) | inr r ↦ elim (input_split ss x k r) [ inl y ↦ inl (inr y) | inr y ↦ inr y ] ]
-input_split (step.Point op args ∷ ss) x k h = input_split ss x k h
-input_split (step.Load lane back max ∷ ss) x k h = input_split ss x k h
-input_split (step.Append lane value ∷ ss) x k h = input_split ss x k h
-input_split (step.Read table arg ∷ ss) x k h = input_split ss x k h
-input_split (step.Write cells args ∷ ss) x k h = input_split ss x k h
 
 ordered_push : (xs : List Step) (x : Step) → AreOrdered xs → StepOperandsBelow (length xs) x → AreOrdered (xs ++ x ∷ [])
 ordered_push xs x h b i d l = elim (cases_lt i (length xs)) [
@@ -138,11 +89,16 @@ operands_held r f h (w ∷ ws) e i b p =
     let q = faster_held (r w) (fastest (map r ws)) e in
     ap₂ (λ x y. x ∷ y) (p w (All-head (λ w. w < i) w ws b) q.0) (operands_held r f h ws q.1 i (All-tail (λ w. w < i) w ws b) p)
 
+-- the number of a held value
+abbrev held_number : Step → ℕ
+held_number (step.Held k) = k
+held_number _ = 0
+
 -- a step that may stand among those of the held values
 record MayHold (g : Graph) (n : ℕ) (x : Step) : Type 0 where
-  names : (k : ℕ) → NamesHeld (x ∷ []) k → NamesControl g k
+  names : (k : ℕ) → x ≡ step.Held k → NamesControl g k
   still : IsStill x
-  inputs : (i : ℕ) → ¬ NamesInput (x ∷ []) i
+  inputs : (i : ℕ) → x ≢ step.Input i
   below : StepOperandsBelow n x
   reads : ReadsWithin g x
 
@@ -184,8 +140,8 @@ module _ (g : Graph) (graph : IsGraph g) (s : ℕ) (l : s < length g.signals) (n
 
   abbrev Gives : Step → Type 0
   Gives x =
-      (X : List Frame) (c : ℕ → Stream) (t : ℕ) (controls : ℕ → ℤ) → ((k : ℕ) → NamesHeld steps k → controls k ≡ c k t) → ((k : ℕ) → NamesHeld (x ∷ []) k →
-      controls k ≡ c k t) →
+      (X : List Frame) (c : ℕ → Stream) (t : ℕ) (controls : ℕ → ℤ) → ((k : ℕ) → NamesHeld steps k → controls k ≡ c k t) →
+      ((k : ℕ) → x ≡ step.Held k → controls k ≡ c k t) →
       gives x controls ≡ value g s X c t
 
   -- one that is, whose step gives its value
@@ -200,8 +156,8 @@ module _ (g : Graph) (graph : IsGraph g) (s : ℕ) (l : s < length g.signals) (n
     ];
     values = λ X c t controls same.
         registers_push g.tables controls steps x h.held_code.still
-        ∙ ap₂ (λ xs y. xs ++ y ∷ []) (h.values X c t controls (λ k n. same k (held_front steps x k n)))
-        (is X c t controls (λ k n. same k (held_front steps x k n)) (λ k n. same k (held_last steps x k n)))
+        ∙ ap₂ (λ xs y. xs ++ y ∷ []) (h.values X c t controls (λ k n. same k (front k n)))
+        (is X c t controls (λ k n. same k (front k n)) (λ k e. same k (subst (Contains (steps ++ x ∷ [])) e (Contains-push steps x))))
         ∙ sym (map_push (λ q. value g q X c t) h.signals s);
     within = λ q. elim (cases_eq q s) [
       | inl z ↦ let e : at new q ≡ length steps = ap (at new) z ∙ get_or-set_same numbers s (length steps) 0 long in omega (arith, e, length_push steps x)
@@ -219,10 +175,10 @@ module _ (g : Graph) (graph : IsGraph g) (s : ℕ) (l : s < length g.signals) (n
           let e : at new q ≡ at numbers q = get_or-set_other numbers s q (length steps) 0 z in
           (omega (arith, e, k.0, length_push steps x), ap (at signals) e ∙ first (at numbers q) k.0 ∙ k.1)
     ];
-    controls = λ k n. elim (held_split steps x k n) [ inl y ↦ h.controls k y | inr y ↦ may.names k y ];
+    controls = λ k n. elim (Contains-push_cases steps x (step.Held k) n) [ inl y ↦ h.controls k y | inr y ↦ may.names k y ];
     held_code = record {
       still = All-push IsStill steps x h.held_code.still may.still;
-      inputs = λ i n. elim (input_split steps x i n) [ inl y ↦ h.held_code.inputs i y | inr y ↦ may.inputs i y ];
+      inputs = λ i n. elim (Contains-push_cases steps x (step.Input i) n) [ inl y ↦ h.held_code.inputs i y | inr y ↦ may.inputs i y ];
     };
     reads = All-push (ReadsWithin g) steps x h.reads may.reads;
     ordered = ordered_push steps x h.ordered may.below;
@@ -233,6 +189,9 @@ module _ (g : Graph) (graph : IsGraph g) (s : ℕ) (l : s < length g.signals) (n
 
       new : List ℕ
       new = set numbers s (length steps)
+
+      front : (k : ℕ) → NamesHeld steps k → NamesHeld (steps ++ x ∷ []) k
+      front k n = Contains-append_left steps (x ∷ []) (step.Held k) n
 
       first : (k : ℕ) → k < length steps → at signals k ≡ at h.signals k
       first k m = get_or_append_left h.signals (s ∷ []) 0 k (omega (arith, h.long))
@@ -292,7 +251,7 @@ module _ (g : Graph) (graph : IsGraph g) (s : ℕ) (l : s < length g.signals) (n
         (All-take (λ a. a < s) (inputs_of op) args lower) (λ w m r. earlier X c t controls same w m r)
         ∙ sym (map_take (inputs_of op) (λ w. value g w X c t) args))
         ∙ sym (node_value (signal.Point op args) e X c t))
-        (record { names = λ k n. absurd n; still = tt; inputs = λ i n. n; below = operands_there four; reads = tt })
+        (record { names = λ k n. absurd cc; still = tt; inputs = λ i n. cc; below = operands_there four; reads = tt })
 
   -- an item of a table whose index is a held value
   module _ (table w : ℕ) (e : node g s ≡ signal.Read table w) (slow : rate_of g s ≢ rate.Sample) where
@@ -306,9 +265,9 @@ module _ (g : Graph) (graph : IsGraph g) (s : ℕ) (l : s < length g.signals) (n
     holds_read = holds_more (step.Read table (at numbers w)) slow (λ X c t controls same more.
         ap (read_at (table_of g table)) (earlier X c t controls same w lower_index slow_index) ∙ sym (node_value (signal.Read table w) e X c t))
         (record {
-          names = λ k n. absurd n;
+          names = λ k n. absurd cc;
           still = tt;
-          inputs = λ i n. n;
+          inputs = λ i n. cc;
           below = (h.numbered w lower_index slow_index).0;
           reads = subst (NamesWithin g) e (graph.closed s (signal.Const (pos 0)) l);
         })
@@ -324,20 +283,18 @@ module _ (g : Graph) (graph : IsGraph g) (s : ℕ) (l : s < length g.signals) (n
   holds_step (signal.Input i) x e slow is whole = absurd (slow (no_rate (signal.Input i) e refl))
   holds_step (signal.Const n) x e slow is whole = subst Held (sym is)
       (holds_more (step.Number n) slow (λ X c t controls same more. sym (node_value (signal.Const n) e X c t)) (record {
-        names = λ k n. absurd n;
-        still =
-            tt;
-        inputs = λ i n. n;
+        names = λ k n. absurd cc;
+        still = tt;
+        inputs = λ i n. cc;
         below = tt;
         reads = tt;
       }))
   holds_step (signal.Control k) x e slow is whole = subst Held (sym is)
-      (holds_more (step.Held k) slow (λ X c t controls same more. more k (inl refl) ∙ sym (node_value (signal.Control k) e X c t))
+      (holds_more (step.Held k) slow (λ X c t controls same more. more k refl ∙ sym (node_value (signal.Control k) e X c t))
       (record {
-        names = λ m n. elim n [ inl z ↦ record { place = s; within = l; is = e ∙ ap signal.Control z } | inr z ↦ absurd z ];
+        names = λ m n. record { place = s; within = l; is = e ∙ ap signal.Control (ap held_number n) };
         still = tt;
-        inputs =
-            λ i n. n;
+        inputs = λ i n. cc;
         below = tt;
         reads = tt;
       }))
@@ -362,8 +319,8 @@ holds_begin g numbers zeros = record {
   values = λ X c t controls same. refl;
   within = λ q. let z = zeros q in omega (arith, z);
   numbered = λ q m r. absurd (omega arith);
-  controls = λ k n. absurd n;
-  held_code = record { still = λ k d m. absurd (omega arith); inputs = λ i n. n };
+  controls = λ k n. absurd (omega (arith, n.1));
+  held_code = record { still = λ k d m. absurd (omega arith); inputs = λ i n. omega (arith, n.1) };
   reads = All-nil (ReadsWithin g);
   ordered = λ i d m. absurd (omega arith);
 }

@@ -4,7 +4,7 @@ use Rattle.std.proofs.Common.{Bool, true, false}
 use Rattle.std.specs.Prelude.{◌||◌, nat_eq, All}
 use Rattle.std.proofs.lemmas.Bool.{eq-eqb, ne_eqb, cases_eq, cases_lt}
 use Rattle.std.proofs.lemmas.List.{length_push, length-map}
-use Rattle.std.proofs.lemmas.List.Elements.{All-nil, All-cons}
+use Rattle.std.proofs.lemmas.List.Elements.{All-nil, All-cons, All-contains}
 use Rattle.fv_num.specs.declared.op.Op.{Op}
 use Rattle.fv_signal.specs.declared.signal.Signal.TheVariants as signal
 use Rattle.fv_signal.specs.headline.Value.{Graph, table_of}
@@ -105,32 +105,35 @@ module _ (g : Graph) (p : Names) (r : Roles) where
   loads_may done ms (step.Read table arg ∷ ss) h l e = loads_may done (ms ++ h.0 ∷ []) ss h.2 l e
   loads_may done ms (step.Write cells args ∷ ss) h l e = loads_may (done_after done (step.Write cells args)) (ms ++ h.0 ∷ []) ss h.2 l e
 
+  -- what holds of each step that fits
+  each_step : (P : Step → Type 0) → ((done : Place → Bool) (ms : List Mean) (s : Step) (m : Mean) → StepFits g p r done ms s m → P s) →
+      (done : Place → Bool) (ms : List Mean) (steps : List Step) → CodeFits g p r done ms steps → All P steps
+  each_step P one done ms [] h = All-nil P
+  each_step P one done ms (s ∷ ss) h = All-cons P s ss (one done ms s h.0 h.1) (each_step P one (done_after done s) (ms ++ h.0 ∷ []) ss h.2)
+
   -- it names held values that are counted
+  abbrev IsCounted : Step → Type 0
+  IsCounted (step.Held k) = k < p.count
+  IsCounted _ = Unit {0}
+
+  step_counted : (done : Place → Bool) (ms : List Mean) (s : Step) (m : Mean) → StepFits g p r done ms s m → IsCounted s
+  step_counted done ms (step.Held k) m h = h.0
+  step_counted done ms _ m h = tt
+
   pub held_counted : (done : Place → Bool) (ms : List Mean) (steps : List Step) → CodeFits g p r done ms steps → (k : ℕ) → NamesHeld steps k → k < p.count
-  held_counted done ms [] h k n = absurd n
-  held_counted done ms (step.Number z ∷ ss) h k n = held_counted done (ms ++ h.0 ∷ []) ss h.2 k n
-  held_counted done ms (step.Held m ∷ ss) h k n = elim n [ inl e ↦ subst (λ x. x < p.count) e h.1.0 | inr y ↦ held_counted done (ms ++ h.0 ∷ []) ss h.2 k y ]
-  held_counted done ms (step.Input i ∷ ss) h k n = held_counted done (ms ++ h.0 ∷ []) ss h.2 k n
-  held_counted done ms (step.Point op args ∷ ss) h k n = held_counted done (ms ++ h.0 ∷ []) ss h.2 k n
-  held_counted done ms (step.Load lane back max ∷ ss) h k n = held_counted done (ms ++ h.0 ∷ []) ss h.2 k n
-  held_counted done ms (step.Append lane value ∷ ss) h k n = held_counted (done_after done (step.Append lane value)) (ms ++ h.0 ∷ []) ss h.2 k n
-  held_counted done ms (step.Read table arg ∷ ss) h k n = held_counted done (ms ++ h.0 ∷ []) ss h.2 k n
-  held_counted done ms (step.Write cells args ∷ ss) h k n = held_counted (done_after done (step.Write cells args)) (ms ++ h.0 ∷ []) ss h.2 k n
+  held_counted done ms steps h k n = All-contains IsCounted steps (step.Held k) (each_step IsCounted step_counted done ms steps h) n
 
   -- and channels that the graph names
+  abbrev HasChannel : Step → Type 0
+  HasChannel (step.Input i) = NamesChannel g i
+  HasChannel _ = Unit {0}
+
+  step_has_channel : (done : Place → Bool) (ms : List Mean) (s : Step) (m : Mean) → StepFits g p r done ms s m → HasChannel s
+  step_has_channel done ms (step.Input i) m h = record { place = h.0; is = h.1 }
+  step_has_channel done ms _ m h = tt
+
   pub inputs_named : (done : Place → Bool) (ms : List Mean) (steps : List Step) → CodeFits g p r done ms steps → (i : ℕ) → NamesInput steps i → NamesChannel g i
-  inputs_named done ms [] h i n = absurd n
-  inputs_named done ms (step.Number z ∷ ss) h i n = inputs_named done (ms ++ h.0 ∷ []) ss h.2 i n
-  inputs_named done ms (step.Held m ∷ ss) h i n = inputs_named done (ms ++ h.0 ∷ []) ss h.2 i n
-  inputs_named done ms (step.Input m ∷ ss) h i n = elim n [
-    | inl e ↦ record { place = h.1.0; is = subst (λ x. StandsAt g h.1.0 (signal.Input x)) e h.1.1 }
-    | inr y ↦ inputs_named done (ms ++ h.0 ∷ []) ss h.2 i y
-  ]
-  inputs_named done ms (step.Point op args ∷ ss) h i n = inputs_named done (ms ++ h.0 ∷ []) ss h.2 i n
-  inputs_named done ms (step.Load lane back max ∷ ss) h i n = inputs_named done (ms ++ h.0 ∷ []) ss h.2 i n
-  inputs_named done ms (step.Append lane value ∷ ss) h i n = inputs_named (done_after done (step.Append lane value)) (ms ++ h.0 ∷ []) ss h.2 i n
-  inputs_named done ms (step.Read table arg ∷ ss) h i n = inputs_named done (ms ++ h.0 ∷ []) ss h.2 i n
-  inputs_named done ms (step.Write cells args ∷ ss) h i n = inputs_named (done_after done (step.Write cells args)) (ms ++ h.0 ∷ []) ss h.2 i n
+  inputs_named done ms steps h i n = All-contains HasChannel steps (step.Input i) (each_step HasChannel step_has_channel done ms steps h) n
 
   load_short : (done : Place → Bool) (ms : List Mean) (lane back max : ℕ) (m : Mean) → LoadFits g p r done ms lane back max m → max ≤ p.history lane
   load_short done ms lane back max m (OfDelay s x d n lx ld ex ed few mine e) = few
@@ -141,22 +144,16 @@ module _ (g : Graph) (p : Names) (r : Roles) where
   module _ (v : PlanView) (lanes : (l : ℕ) → r.loaded l ≡ true → (l < length v.lanes) × (p.history l ≡ (lane_info v l).history))
       (tables : v.tables ≡ g.tables) (cells : (k : ℕ) → r.own (OfCells k) ≡ true → k < length v.cells) where
     step_within : (done : Place → Bool) (ms : List Mean) (s : Step) (m : Mean) → StepFits g p r done ms s m → LoadsWithin v s
-    step_within done ms (step.Number n) m h = tt
-    step_within done ms (step.Held k) m h = tt
-    step_within done ms (step.Input i) m h = tt
-    step_within done ms (step.Point op args) m h = tt
     step_within done ms (step.Load lane back max) m h =
         let k = lanes lane h.0 in
         let f = load_short done ms lane back max m h.1 in
         (k.0, omega (arith, k.1, f))
-    step_within done ms (step.Append lane value) m h = tt
     step_within done ms (step.Read table arg) m h = subst (λ ts. 0 < length (list_at ts table)) (sym tables) h.items
     step_within done ms (step.Write k args) m h = cells k h.own
+    step_within done ms _ m h = tt
 
     pub loads_within : (done : Place → Bool) (ms : List Mean) (steps : List Step) → CodeFits g p r done ms steps → All (LoadsWithin v) steps
-    loads_within done ms [] h = All-nil (LoadsWithin v)
-    loads_within done ms (s ∷ ss) h =
-        All-cons (LoadsWithin v) s ss (step_within done ms s h.0 h.1) (loads_within (done_after done s) (ms ++ h.0 ∷ []) ss h.2)
+    loads_within done ms steps h = each_step (LoadsWithin v) step_within done ms steps h
 
   point_below : (ms : List Mean) (op : Op) (args : List ℕ) (m : Mean) → PointFits g ms op args m → All (λ a. a < length ms) args
   point_below ms op args m (OfPoint s os n within there same e) = there

@@ -5,6 +5,8 @@ use Rattle.std.proofs.Math.Seq.{length-take-le}
 use Rattle.fv_control.specs.declared.script.Change.{Change}
 use Rattle.fv_control.specs.headline.Streams.{control_streams}
 use Rattle.fv_tape.specs.Acts.{Hearing, Saying}
+use Rattle.fv_split_plan.specs.Code.{NamesHeld}
+use Rattle.fv_engine.specs.Stands.{EngineView}
 use Rattle.fv_engine_render.specs.Blocks.{AreNext}
 use Rattle.fv_engine_render.specs.inner.Runs.{PlaysAll}
 use Rattle.fv_engine_render.proofs.Cuts.{come_later}
@@ -41,6 +43,12 @@ playing-init g c =
 pub listen-next-requires-clause-named : goal.listen-next-requires-clause-named
 listen-next-requires-clause-named g c =
     subst (λ (n : ℕ). AllByRecursion (λ (x : Change). x.control < n) c.args.changes.now) (sym c.playing.invariant.listened.count) c.requires.named
+
+pub run_block-report-requires-clause-controls : goal.run_block-report-requires-clause-controls
+run_block-report-requires-clause-controls g c κs within =
+    let i = c.playing.invariant in
+    λ k h. subst (λ n. k < n) (sym (c.listen-next.auto.values ∙ i.listened.count))
+    (c.requires.controls k (subst (λ (x : EngineView). NamesHeld x.plan.held k) i.streamed.same h))
 
 pub returns-in-Err-hear-clause-stops : goal.returns-in-Err-hear-clause-stops
 returns-in-Err-hear-clause-stops g c =

@@ -10,6 +10,7 @@ use Rattle.fv_outside.specs.headline.Journal.{BlockEntry, IsOrdered}
 use Rattle.fv_outside.specs.declared.gate.Line.{Line}
 use Rattle.fv_outside.specs.declared.tasks.Reads.{Reads}
 use Rattle.fv_graph.specs.Graph.{Graph}
+use Rattle.fv_loopcode.specs.headline.Code.{NamesHeld}
 use Rattle.fv_pool.specs.Region.{cells_of}
 use Rattle.fv_split_plan.specs.Rows.{lists_of}
 use Rattle.fv_lines.specs.declared.shape.LaneShape.{LaneShape}
@@ -44,6 +45,9 @@ called g c = record {
   vectors = c.vectors-vectors.ensures.value;
   tasks = c.set_vectors.ensures.tasks;
 }
+
+pub hold-requires-clause-controls : goal.hold-requires-clause-controls
+hold-requires-clause-controls g c = λ k h. c.requires.controls k (subst (λ (x : EngineView). NamesHeld x.plan.held k) c.self.view_is h)
 
 pub set_vectors-requires-clause-room : goal.set_vectors-requires-clause-room
 set_vectors-requires-clause-room g c =
