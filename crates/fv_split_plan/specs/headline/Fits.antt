@@ -19,15 +19,8 @@ pub record Names : Type 0 where
 
 -- the list of a table that is written before time t, nothing where the node is none
 abbrev pub written_by : Graph → (X : List Frame) → (c : ℕ → Stream) → Signal → (t : ℕ) → List ℤ
-written_by g X c (signal.Input i) t = []
-written_by g X c (signal.Const n) t = []
-written_by g X c (signal.Control k) t = []
-written_by g X c (signal.Point op args) t = []
-written_by g X c (signal.Delay x d max) t = []
-written_by g X c (signal.Back group i) t = []
-written_by g X c (signal.Member group i) t = []
-written_by g X c (signal.Read table r) t = []
 written_by g X c (signal.Write table w x r) t = after (table_of g table) (value g w X c) (value g x X c) t
+written_by g X c _ t = []
 
 -- what the lanes, tables and cells of a plan carry
 abbrev pub flows : Graph → Names → (X : List Frame) → (c : ℕ → Stream) → Flows

@@ -96,14 +96,10 @@ pub record IsHeldCode (steps : List Step) : Type 0 where
 -- a load is of a lane that is there, and goes back no further than its history; a read is of a table that is there and has items, and a
 -- write of cells that are there
 abbrev pub LoadsWithin : PlanView → Step → Type 0
-LoadsWithin p (step.Number n) = Unit {0}
-LoadsWithin p (step.Held k) = Unit {0}
-LoadsWithin p (step.Input i) = Unit {0}
-LoadsWithin p (step.Point op args) = Unit {0}
 LoadsWithin p (step.Load lane back max) = (lane < length p.lanes) × (max ≤ (lane_info p lane).history)
-LoadsWithin p (step.Append lane value) = Unit {0}
 LoadsWithin p (step.Read table arg) = 0 < length (list_at p.tables table)
 LoadsWithin p (step.Write cells args) = cells < length p.cells
+LoadsWithin p _ = Unit {0}
 
 -- The codes name only what is there, and go no further back than the histories.
 pub record PlanNames (g : Graph) (p : PlanView) : Type 0 where

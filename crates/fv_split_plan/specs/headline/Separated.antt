@@ -11,27 +11,17 @@ use Rattle.fv_analysis.specs.headline.Stands.{node, stand, StandsAt}
 
 -- the signals that a node reads
 abbrev pub operands : Signal → List ℕ
-operands (Input i) = []
-operands (Const n) = []
-operands (Control k) = []
 operands (Point op args) = take (inputs_of op) args
 operands (Delay x d max) = x ∷ d ∷ []
-operands (Back group i) = []
-operands (Member group i) = []
 operands (Read table r) = r ∷ []
 operands (Write table w x r) = w ∷ x ∷ r ∷ []
+operands _ = []
 
--- what a node leads to in one step: what it reads, and what the member is defined as that a Back or a Member names
+-- what a node leads to in one step: what the member is defined as that a Back or a Member names, and what another node reads
 abbrev pub found_from : Graph → Signal → List ℕ
-found_from g (Input i) = []
-found_from g (Const n) = []
-found_from g (Control k) = []
-found_from g (Point op args) = take (inputs_of op) args
-found_from g (Delay x d max) = x ∷ d ∷ []
 found_from g (Back group i) = definition g group i ∷ []
 found_from g (Member group i) = definition g group i ∷ []
-found_from g (Read table r) = r ∷ []
-found_from g (Write table w x r) = w ∷ x ∷ r ∷ []
+found_from g n = operands n
 
 -- what each signal leads to, nothing where there is no signal
 abbrev pub links_of : Graph → Links
@@ -46,15 +36,11 @@ pub record ReadsSignal (g : Graph) (r s : ℕ) : Type 0 where
 
 -- an operation, a delay or a table
 abbrev pub IsComputed : Signal → Type 0
-IsComputed (Input i) = ⊥
-IsComputed (Const n) = ⊥
-IsComputed (Control k) = ⊥
 IsComputed (Point op args) = Unit {0}
 IsComputed (Delay x d max) = Unit {0}
-IsComputed (Back group i) = ⊥
-IsComputed (Member group i) = ⊥
 IsComputed (Read table r) = Unit {0}
 IsComputed (Write table w x r) = Unit {0}
+IsComputed _ = ⊥
 
 -- Why a signal is separated: it is an output of the program; a delay that may go back reads it; it defines a member of a
 -- group; it is computed at each sample and two nodes read it; or it is a table that is written.

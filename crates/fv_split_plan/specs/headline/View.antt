@@ -34,14 +34,8 @@ code_of p j = slice_index_or p.codes j []
 -- one of the steps loads the lane
 abbrev pub loads_lane : ℕ → List Step → Bool
 loads_lane l [] = false
-loads_lane l (step.Number n ∷ ss) = loads_lane l ss
-loads_lane l (step.Held k ∷ ss) = loads_lane l ss
-loads_lane l (step.Input i ∷ ss) = loads_lane l ss
-loads_lane l (step.Point op args ∷ ss) = loads_lane l ss
 loads_lane l (step.Load lane back max ∷ ss) = nat_eq l lane || loads_lane l ss
-loads_lane l (step.Append lane value ∷ ss) = loads_lane l ss
-loads_lane l (step.Read table arg ∷ ss) = loads_lane l ss
-loads_lane l (step.Write cells args ∷ ss) = loads_lane l ss
+loads_lane l (_ ∷ ss) = loads_lane l ss
 
 -- a loop's own places
 abbrev pub is_own : PlanView → ℕ → Place → Bool
