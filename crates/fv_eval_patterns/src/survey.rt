@@ -136,14 +136,8 @@ impl Survey {
         ensures { result ≡ false → (d : Diagram) → IsShape tree.now self.now.rows shape d → Never tree.now id d }
     {
         match tree.node(id) {
-            TreeNode::Number(n) => {
-                let k = literal(*n);
-                number_is(shape, k)
-            }
-            TreeNode::Negative(n) => {
-                let k = negative_literal(*n);
-                number_is(shape, k)
-            }
+            TreeNode::Number(n) => number_is(shape, literal(*n)),
+            TreeNode::Negative(n) => number_is(shape, negative_literal(*n)),
             TreeNode::Binary(operator, p, q) => self.parts_may_match(*operator, *p, *q, shape),
             _ => true,
         }
