@@ -4,4 +4,3 @@ pub mod Gathering
 pub mod Props
 pub mod Running
 pub mod Tasking
-pub mod Windows

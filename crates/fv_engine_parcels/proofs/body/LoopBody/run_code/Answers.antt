@@ -11,7 +11,7 @@ use Rattle.fv_engine_parcels.specs.inner.Turns.{After}
 use Rattle.fv_engine_parcels.specs.declared.start.Start.{Start}
 use Rattle.fv_engine_parcels.proofs.Props.{may_run_merely, own_after_merely}
 use Rattle.fv_engine_parcels.proofs.Tasking.{upto_next}
-use Rattle.fv_engine_parcels.proofs.Windows.{starts_at, window_is, input_long}
+use Rattle.fv_engine_tasks.proofs.lemmas.Windows.{starts_at, window_is, input_long}
 use Rattle.fv_engine_parcels.proofs.body.LoopBody.run_code.Goals as goal
 
 pub run-requires-clause-may : goal.run-requires-clause-may
