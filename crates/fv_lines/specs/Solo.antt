@@ -10,6 +10,7 @@ use Rattle.fv_lines.specs.Hold.{from_start}
 use Rattle.fv_lines.specs.Flat.{HasOrigin}
 use Rattle.fv_lines.specs.declared.shape.LaneShape.{LaneShape}
 use Rattle.fv_lines.specs.declared.shape.LaneState.{LaneState}
+use Rattle.fv_lines.specs.declared.begun_lane.BegunLane.{BegunLane}
 use Rattle.fv_lines.specs.declared.solo.Solo.{Solo}
 
 -- lane i's history, block and length, and where its history begins
@@ -33,9 +34,9 @@ held_from lengths s n i cells = take n (from_start s (part lengths i cells))
 abbrev pub held_at : List ℕ → List LaneState → ℕ → ℕ → List ℤ → List ℤ
 held_at lengths states n i cells = held_from lengths (start_at states i) n i cells
 
--- where lane i's history begins, where its state holds its origin
-abbrev pub first_at : List LaneShape → List LaneState → ℕ → ℕ
-first_at shapes states i = start_at states i - history_at shapes i
+-- where lane i's history begins, by its origin
+abbrev pub first_at : List LaneShape → List ℕ → ℕ → ℕ
+first_at shapes origins i = slice_index origins i - history_at shapes i
 
 -- the lengths of the parts, the shapes, the cells, and for how many samples the lanes were begun
 abbrev pub lengths_in : Solo → List ℕ
@@ -50,17 +51,36 @@ cells_in s = s.cells.now
 abbrev pub frames_in : Solo → ℕ
 frames_in s = s.frames
 
+-- of each lane that has begun its shape, where its part begins, its origin, and how many samples are written
+abbrev pub shapes_begun : List BegunLane → List LaneShape
+shapes_begun begun = map (λ (l : BegunLane). l.shape) begun
+
+abbrev pub places_begun : List BegunLane → List ℕ
+places_begun begun = map (λ (l : BegunLane). l.place) begun
+
+abbrev pub origins_begun : List BegunLane → List ℕ
+origins_begun begun = map (λ (l : BegunLane). l.origin) begun
+
+abbrev pub written_begun : List BegunLane → List ℕ
+written_begun begun = map (λ (l : BegunLane). l.written) begun
+
+abbrev pub origins_in : Solo → List ℕ
+origins_in s = origins_begun s.begun.now
+
+abbrev pub written_in : Solo → List ℕ
+written_in s = written_begun s.begun.now
+
 -- lane i's list: the history and the samples written so far
 abbrev pub list_at : Solo → ℕ → List ℤ
 list_at s i =
-    held_from (lengths_in s) (first_at (shapes_in s) s.states.now i) (history_at (shapes_in s) i + slice_index s.written.now i) i (cells_in s)
+    held_from (lengths_in s) (first_at (shapes_in s) (origins_in s) i) (history_at (shapes_in s) i + slice_index (written_in s) i) i (cells_in s)
 
 -- lane i
 abbrev pub lane_at : Solo → ℕ → Lane
 lane_at s i = record {
   history = history_at (shapes_in s) i;
   items = list_at s i;
-  room = frames_in s - slice_index s.written.now i;
+  room = frames_in s - slice_index (written_in s) i;
 }
 
 -- all lanes, in order
@@ -75,43 +95,44 @@ pub record IsLane (h b m n origin written frames : ℕ) : Type 0 where
   pub upto : written ≤ frames
   pub placed : HasOrigin h m origin
 
--- the lists have one entry for each lane, and each lane lies in its part
+-- the lists have one entry for each lane, a lane's record has its shape and its place, and each lane lies in its part
 pub record IsSolo (s : Solo) : Type 0 where
   pub shapes : length (shapes_in s) ≡ length (lengths_in s)
   pub states : length s.states.now ≡ length (lengths_in s)
-  pub written : length s.written.now ≡ length (lengths_in s)
+  pub begun : length s.begun.now ≡ length (lengths_in s)
   pub fits : sum (lengths_in s) ≤ length (cells_in s)
-  pub places : ArePlaces (lengths_in s) s.places.now
+  pub same : shapes_begun s.begun.now ≡ shapes_in s
+  pub places : ArePlaces (lengths_in s) (places_begun s.begun.now)
   pub lanes : (i : ℕ) → i < length (lengths_in s) →
-      IsLane (history_at (shapes_in s) i) (block_at (shapes_in s) i) (len_at (shapes_in s) i) (slice_index (lengths_in s) i) (start_at s.states.now i)
-      (slice_index s.written.now i) (frames_in s)
+      IsLane (history_at (shapes_in s) i) (block_at (shapes_in s) i) (len_at (shapes_in s) i) (slice_index (lengths_in s) i) (slice_index (origins_in s) i)
+      (slice_index (written_in s) i) (frames_in s)
 
 -- what no call changes: which loans these are, the lengths, the shapes and the number of samples
 pub record SoloRest : Type 0 where
   pub cells : GName
   pub states : GName
-  pub written : GName
+  pub begun : GName
   pub lengths : List ℕ
   pub shapes : List LaneShape
   pub frames : ℕ
 
 abbrev pub rest_in : GName → GName → GName → List ℕ → List LaneShape → ℕ → SoloRest
-rest_in cells states written lengths shapes frames = record {
+rest_in cells states begun lengths shapes frames = record {
   cells = cells;
   states = states;
-  written = written;
+  begun = begun;
   lengths = lengths;
   shapes = shapes;
   frames = frames;
 }
 
 abbrev pub rest_of : Solo → SoloRest
-rest_of s = rest_in s.cells.ghost_name s.states.ghost_name s.written.ghost_name (lengths_in s) (shapes_in s) (frames_in s)
+rest_of s = rest_in s.cells.ghost_name s.states.ghost_name s.begun.ghost_name (lengths_in s) (shapes_in s) (frames_in s)
 
 -- one entry for each lane, and room for all parts
-abbrev pub AreLists : List ℕ → List LaneShape → List LaneState → List ℕ → List ℤ → Type 0
-AreLists lengths shapes states written cells =
-    (length shapes ≡ length lengths) × (length states ≡ length lengths) × (length written ≡ length lengths) × (sum lengths ≤ length cells)
+abbrev pub AreLists : List ℕ → List LaneShape → List LaneState → List BegunLane → List ℤ → Type 0
+AreLists lengths shapes states begun cells =
+    (length shapes ≡ length lengths) × (length states ≡ length lengths) × (length begun ≡ length lengths) × (sum lengths ≤ length cells)
 
 -- a part of n cells and a start hold a history of h samples, of a lane of m cells
 abbrev pub IsHeld : (h m n start : ℕ) → Type 0

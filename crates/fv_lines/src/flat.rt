@@ -5,6 +5,7 @@ ghost use Rattle.fv_lines.specs.Hold.{from_start, held, Holds};
 ghost use Rattle.fv_lines.specs.Flat.{HasOrigin, IsBegun};
 ghost use Rattle.fv_lines.specs.Shape.{copied_history, Turned};
 
+use crate::items::copy_if_some;
 use crate::shape::{COPIED_HISTORY, LaneShape, LaneState};
 
 /// Writes the block's sample number `index`, behind all before it.
@@ -27,18 +28,6 @@ pub(crate) fn get(cells: &[i32], shape: &LaneShape, origin: u64, index: u64, bac
     ensures { result ≡ slice_index_or (from_start (origin - shape.now.history) cells.now) (shape.now.history + index - back) (pos 0) }
 {
     cells[shape.cell(origin + index - back) as usize]
-}
-
-// These numbers become others, as many. The second piece of a copy has none, where it does not go over the end of the cells, and so it is
-// told apart.
-#[inline(always)]
-fn copy_if_some(to: &mut [i32], from: &[i32])
-    requires { length to.old ≡ length from.now }
-    ensures { to.new ≡ from.now }
-{
-    if !from.is_empty() {
-        to.copy_from_slice(from);
-    }
 }
 
 /// Writes these samples of the block from number `index` on, behind all before them.

@@ -33,3 +33,14 @@ pub fn exchange(list: &mut [i32], w: i32, x: i32, r: i32) -> i32
     list[place(count, w)] = x;
     list[place(count, r)]
 }
+
+// These numbers become others, as many. Of a copy in two pieces one mostly has none, and so that is told apart.
+#[inline(always)]
+pub(crate) fn copy_if_some(to: &mut [i32], from: &[i32])
+    requires { length to.old ≡ length from.now }
+    ensures { to.new ≡ from.now }
+{
+    if !from.is_empty() {
+        to.copy_from_slice(from);
+    }
+}

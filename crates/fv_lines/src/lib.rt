@@ -1,6 +1,7 @@
 // Lanes over the parts of a region, which are lists that only grow; and the items of lists that are read and written.
 #![tactic(auto)]
 
+mod begun_lane;
 mod flat;
 mod items;
 mod row;
@@ -9,6 +10,7 @@ mod shape;
 mod solo;
 mod writer;
 
+pub use begun_lane::BegunLane;
 pub use items::{exchange, item};
 pub use seen::Seen;
 pub use shape::{LaneShape, LaneState};

@@ -1,20 +1,20 @@
 // All lanes, for one worker.
 
+use crate::begun_lane::BegunLane;
 use crate::flat::{advance, get, get_many, put, put_many, settle};
 use crate::shape::{LaneShape, LaneState};
 use fv_pool::Layout;
 
 /// All lanes of a layout, lent to one worker for a block. Each of its loans has a lifetime of its own, so that who lent them knows what they end with.
-/// While it lives, a lane's state holds not where its history begins, but its origin: the number of cells before the block's first sample.
+/// What a load or an append needs to know of a lane lies in one record. The shapes and the states are looked into where the block begins and ends.
 #[derive(Drop)]
 pub struct Solo<'a, 'l, 's, 'b, 'c> {
     cells: &'a mut [i32],
     layout: &'l Layout,
     shapes: &'s [LaneShape],
     states: &'b mut [LaneState],
-    written: &'c mut [u32],
+    begun: &'c mut [BegunLane],
     frames: u32,
-    places: &'l [u64],
 }
 
 impl<'a, 'l, 's, 'b, 'c> Solo<'a, 'l, 's, 'b, 'c> {
@@ -23,43 +23,48 @@ impl<'a, 'l, 's, 'b, 'c> Solo<'a, 'l, 's, 'b, 'c> {
     ghost use Rattle.fv_loopcode.specs.headline.Lanes.{lane_of, appended, sample_at};
     ghost use Rattle.fv_loopcode.specs.Lanes.{all_appended, HasSample, HasJust};
     ghost use Rattle.fv_pool.specs.Lengths.{lengths_of};
-    ghost use Rattle.fv_lines.specs.Solo.{lanes_of, lane_at, lengths_in, shapes_in, cells_in, frames_in, opening_lanes, AreLists, AreHeld, AreFramed, AreFull};
+    ghost use Rattle.fv_lines.specs.Solo.{lanes_of, lane_at, lengths_in, shapes_in, cells_in, frames_in, written_in, opening_lanes, AreLists, AreHeld, AreFramed, AreFull};
     ghost use Rattle.fv_lines.specs.Solo.{HoldNext, IsSolo, rest_of, rest_in};
 
-    /// Every lane begins with the history that its cells and its state hold. `written` has one number for each lane, whatever they are.
+    /// Every lane begins with the history that its cells and its state hold. `begun` has one record for each lane, whatever they say.
     pub fn begin(
         cells: &'a mut [i32],
         layout: &'l Layout,
         shapes: &'s [LaneShape],
         states: &'b mut [LaneState],
-        written: &'c mut [u32],
+        begun: &'c mut [BegunLane],
         frames: u32,
     ) -> Solo<'a, 'l, 's, 'b, 'c>
-        requires lists { AreLists (lengths_of layout.now) shapes.now states.old written.old cells.old }
+        requires lists { AreLists (lengths_of layout.now) shapes.now states.old begun.old cells.old }
         requires lanes { AreHeld (lengths_of layout.now) shapes.now states.old }
         requires frames { AreFramed (lengths_of layout.now) shapes.now frames }
         ensures valid { IsSolo result }
         ensures kept { rest_of result
-            ≡ rest_in cells.entry.ghost_name states.entry.ghost_name written.entry.ghost_name (lengths_of layout.now) shapes.now frames }
+            ≡ rest_in cells.entry.ghost_name states.entry.ghost_name begun.entry.ghost_name (lengths_of layout.now) shapes.now frames }
         ensures lanes { lanes_of result ≡ opening_lanes (lengths_of layout.now) shapes.now states.old frames cells.old }
     {
         let places = layout.places();
         for lane in 0..layout.len() {
             let i = lane as usize;
-            let place = places[i] as usize;
+            let shape = shapes[i];
+            let place = places[i];
+            let first = place as usize;
             let len = layout.length(lane) as usize;
-            let origin = settle(&mut cells[place..place + len], &shapes[i], states[i]);
-            states[i] = LaneState { start: origin };
-            written[i] = 0;
+            let origin = settle(&mut cells[first..first + len], &shape, states[i]);
+            begun[i] = BegunLane {
+                shape,
+                place,
+                origin,
+                written: 0,
+            };
         }
         Solo {
             cells,
             layout,
             shapes,
             states,
-            written,
+            begun,
             frames,
-            places,
         }
     }
 
@@ -106,7 +111,7 @@ impl<'a, 'l, 's, 'b, 'c> Solo<'a, 'l, 's, 'b, 'c> {
         requires there { lane < length (lanes_of self.now) }
         ensures { result ≡ (lane_of (lanes_of self.now) lane).room }
     {
-        self.frames - self.written[lane as usize]
+        self.frames - self.begun[lane as usize].written
     }
 
     /// The sample that lies so far back before a sample of the block is there.
@@ -117,9 +122,10 @@ impl<'a, 'l, 's, 'b, 'c> Solo<'a, 'l, 's, 'b, 'c> {
         ensures { IsTrue result ↔ HasSample (lane_of (lanes_of self.now) lane) index back }
     {
         let i = lane as usize;
-        let history = u64::from(self.shapes[i].history);
+        let begun = self.begun[i];
+        let history = u64::from(begun.shape.history);
         let newest = history + index;
-        back <= newest && newest - back < history + u64::from(self.written[i])
+        back <= newest && newest - back < history + u64::from(begun.written)
     }
 
     /// The lane has just so many samples of the block.
@@ -128,7 +134,7 @@ impl<'a, 'l, 's, 'b, 'c> Solo<'a, 'l, 's, 'b, 'c> {
         requires there { lane < length (lanes_of self.now) }
         ensures { IsTrue result ↔ HasJust (lane_of (lanes_of self.now) lane) samples }
     {
-        samples == u64::from(self.written[lane as usize])
+        samples == u64::from(self.begun[lane as usize].written)
     }
 
     /// The samples that lie so far back before as many samples of the block, from this one on. The cells of a lane lie one after another, so
@@ -170,9 +176,10 @@ impl<'a, 'l, 's, 'b, 'c> Solo<'a, 'l, 's, 'b, 'c> {
     {
         let shapes = self.shapes;
         let states = self.states;
+        let begun = self.begun;
         let frames = self.frames;
         for i in 0..shapes.len() {
-            states[i] = advance(&shapes[i], states[i].start, frames);
+            states[i] = advance(&shapes[i], begun[i].origin, frames);
         }
     }
 
@@ -180,51 +187,49 @@ impl<'a, 'l, 's, 'b, 'c> Solo<'a, 'l, 's, 'b, 'c> {
     fn write(&mut self, lane: u64, value: i32)
         requires valid { IsSolo self.old }
         requires there { lane < length (lengths_in self.old) }
-        requires room { slice_index self.old.written.now lane < self.old.frames }
+        requires room { slice_index (written_in self.old) lane < self.old.frames }
         ensures valid { IsSolo self.new }
         ensures kept { rest_of self.new ≡ rest_of self.old }
         ensures lanes { lanes_of self.new ≡ slice_set (lanes_of self.old) lane (appended (lane_at self.old lane) value) }
     {
         let i = lane as usize;
-        let place = self.places[i] as usize;
-        let len = self.layout.length(lane) as usize;
-        let shape = &self.shapes[i];
-        let origin = self.states[i].start;
-        let index = u64::from(self.written[i]);
+        let begun = self.begun[i];
+        let place = begun.place as usize;
+        let len = begun.shape.len as usize;
+        let index = u64::from(begun.written);
         put(
             &mut self.cells[place..place + len],
-            shape,
-            origin,
+            &begun.shape,
+            begun.origin,
             index,
             value,
         );
-        self.written[i] += 1;
+        self.begun[i].written += 1;
     }
 
     // These samples of a lane, by its number of written samples.
     fn write_many(&mut self, lane: u64, values: &[i32])
         requires valid { IsSolo self.old }
         requires there { lane < length (lengths_in self.old) }
-        requires room { slice_index self.old.written.now lane + length values.now ≤ self.old.frames }
+        requires room { slice_index (written_in self.old) lane + length values.now ≤ self.old.frames }
         ensures valid { IsSolo self.new }
         ensures kept { rest_of self.new ≡ rest_of self.old }
         ensures lanes { lanes_of self.new
             ≡ slice_set (lanes_of self.old) lane (all_appended (lane_at self.old lane) (argument values.now) (length values.now)) }
     {
         let i = lane as usize;
-        let place = self.places[i] as usize;
-        let len = self.layout.length(lane) as usize;
-        let shape = &self.shapes[i];
-        let origin = self.states[i].start;
-        let index = u64::from(self.written[i]);
+        let begun = self.begun[i];
+        let place = begun.place as usize;
+        let len = begun.shape.len as usize;
+        let index = u64::from(begun.written);
         put_many(
             &mut self.cells[place..place + len],
-            shape,
-            origin,
+            &begun.shape,
+            begun.origin,
             index,
             values,
         );
-        self.written[i] += values.len() as u32;
+        self.begun[i].written += values.len() as u32;
     }
 
     // A sample of a lane, from its origin.
@@ -236,11 +241,16 @@ impl<'a, 'l, 's, 'b, 'c> Solo<'a, 'l, 's, 'b, 'c> {
         ensures { result ≡ sample_at (lane_at self.now lane) index back }
     {
         let i = lane as usize;
-        let place = self.places[i] as usize;
-        let len = self.layout.length(lane) as usize;
-        let shape = &self.shapes[i];
-        let origin = self.states[i].start;
-        get(&self.cells[place..place + len], shape, origin, index, back)
+        let begun = self.begun[i];
+        let place = begun.place as usize;
+        let len = begun.shape.len as usize;
+        get(
+            &self.cells[place..place + len],
+            &begun.shape,
+            begun.origin,
+            index,
+            back,
+        )
     }
 
     // As many samples of a lane as `to` has, from its origin.
@@ -256,14 +266,13 @@ impl<'a, 'l, 's, 'b, 'c> Solo<'a, 'l, 's, 'b, 'c> {
             return;
         }
         let i = lane as usize;
-        let place = self.places[i] as usize;
-        let len = self.layout.length(lane) as usize;
-        let shape = &self.shapes[i];
-        let origin = self.states[i].start;
+        let begun = self.begun[i];
+        let place = begun.place as usize;
+        let len = begun.shape.len as usize;
         get_many(
             &self.cells[place..place + len],
-            shape,
-            origin,
+            &begun.shape,
+            begun.origin,
             index,
             back,
             to,

@@ -44,7 +44,7 @@ table_set {A} n i f g v l at others =
 pub record Lists : Type 0 where
   pub lengths : List ℕ
   pub shapes : List LaneShape
-  pub states : List LaneState
+  pub origins : List ℕ
   pub written : List ℕ
   pub frames : ℕ
   pub cells : List ℤ
@@ -54,7 +54,7 @@ abbrev pub count_in : Lists → ℕ → ℕ
 count_in t j = history_at t.shapes j + slice_index t.written j
 
 abbrev pub items_in : Lists → ℕ → List ℤ
-items_in t j = held_from t.lengths (first_at t.shapes t.states j) (count_in t j) j t.cells
+items_in t j = held_from t.lengths (first_at t.shapes t.origins j) (count_in t j) j t.cells
 
 -- lane j, from the lists
 abbrev pub lane_in : Lists → ℕ → Lane
@@ -65,7 +65,7 @@ abbrev pub with_more : Lists → ℕ → List ℤ → ℕ → Lists
 with_more t i new n = record {
   lengths = t.lengths;
   shapes = t.shapes;
-  states = t.states;
+  origins = t.origins;
   written = set t.written i (slice_index t.written i + n);
   frames = t.frames;
   cells = with_part t.lengths t.cells i new;
@@ -75,7 +75,7 @@ with_more t i new n = record {
 pub record Grows (t : Lists) (i : ℕ) (new values : List ℤ) : Type 0 where
   pub new_part : IsNewPart t.lengths i t.cells new
   pub written_long : length t.written ≡ length t.lengths
-  pub grown : take (count_in t i + length values) (from_start (first_at t.shapes t.states i) new) ≡ items_in t i ++ values
+  pub grown : take (count_in t i + length values) (from_start (first_at t.shapes t.origins i) new) ≡ items_in t i ++ values
 
 abbrev pub made : ℕ → List ℤ → ℕ → Lane
 made h xs r = record { history = h; items = xs; room = r }
@@ -111,13 +111,13 @@ more t i new values grows =
     let longer : count_in after i ≡ count_in t i + n = omega (arith, count) in
     table_set (length t.lengths) i (lane_in t) (lane_in after) (all_appended (lane_in t i) (argument values) n) grows.new_part.there
     (made_more (history_at t.shapes i) t.frames (slice_index t.written i) (slice_index after.written i) (items_in t i) (items_in after i) values
-    (ap (λ (xs : List ℤ). take (count_in after i) (from_start (first_at t.shapes t.states i) xs))
+    (ap (λ (xs : List ℤ). take (count_in after i) (from_start (first_at t.shapes t.origins i) xs))
     (part_written grows.new_part)
-    ∙ ap (λ (m : ℕ). take m (from_start (first_at t.shapes t.states i) new)) longer ∙ grows.grown) count)
+    ∙ ap (λ (m : ℕ). take m (from_start (first_at t.shapes t.origins i) new)) longer ∙ grows.grown) count)
     (λ j k ne.
     let other : slice_index after.written j ≡ slice_index t.written j = get_or-set_other t.written i j (slice_index t.written i + n) 0 ne in
     ap₂ (λ (m : ℕ) (xs : List ℤ). made (history_at t.shapes j)
-    (take (history_at t.shapes j + m) (from_start (first_at t.shapes t.states j) xs)) (t.frames - m))
+    (take (history_at t.shapes j + m) (from_start (first_at t.shapes t.origins j) xs)) (t.frames - m))
     other (part_kept grows.new_part j ne k))
 
 pub start_is : (states : List LaneState) (i : ℕ) (d : LaneState) → i < length states → start_at states i ≡ (get_or states i d).start

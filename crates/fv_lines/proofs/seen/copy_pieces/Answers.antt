@@ -18,10 +18,10 @@ returns-clause-samples c =
       | inl p ↦ omega (arith, p.0, p.1, length-drop s older)
       | inr p ↦ omega (arith, p.0, length-drop s older)
     ] in
-    let one : c.copy_from_slice.new.self ≡ take b (drop s older) =
-    c.copy_from_slice.ensures.after ∙ ap (λ (k : ℕ). take k (drop s older)) (let e : s + b - s ≡ b = omega arith in e) in
-    let two : c.copy_from_slice-2.new.self ≡ take (n - b) (drop (f - s) newer) =
-    c.copy_from_slice-2.ensures.after ∙ ap (λ (k : ℕ). take k (drop (f - s) newer)) (let e : f - s + (n - b) - (f - s) ≡ n - b = omega arith in e) in
-    both_put c.args.to.now c.copy_from_slice.new.self c.copy_from_slice-2.new.self b (ap length one ∙ length-take-le b (drop s older) few)
-    ∙ ap (λ (xs : List ℤ). xs ++ c.copy_from_slice-2.new.self) one ∙ ap (λ (xs : List ℤ). take b (drop s older) ++ xs) two
+    let one : c.copy_if_some.new.to ≡ take b (drop s older) =
+    c.copy_if_some.ensures ∙ ap (λ (k : ℕ). take k (drop s older)) (let e : s + b - s ≡ b = omega arith in e) in
+    let two : c.copy_if_some-2.new.to ≡ take (n - b) (drop (f - s) newer) =
+    c.copy_if_some-2.ensures ∙ ap (λ (k : ℕ). take k (drop (f - s) newer)) (let e : f - s + (n - b) - (f - s) ≡ n - b = omega arith in e) in
+    both_put c.args.to.now c.copy_if_some.new.to c.copy_if_some-2.new.to b (ap length one ∙ length-take-le b (drop s older) few)
+    ∙ ap (λ (xs : List ℤ). xs ++ c.copy_if_some-2.new.to) one ∙ ap (λ (xs : List ℤ). take b (drop s older) ++ xs) two
     ∙ two_lists older newer f n s b at cut

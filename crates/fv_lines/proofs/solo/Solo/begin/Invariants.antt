@@ -4,4 +4,4 @@ use Rattle.fv_lines.proofs.solo.Solo.begin.Given as goal
 
 abbrev pub invariant-loop-lane : goal.invariant-loop-lane
 invariant-loop-lane l =
-    AreOpened (record { lengths = lengths_of l.layout; shapes = l.shapes; states = l.fn.states; cells = l.fn.cells }) l.states l.written l.cells l.lane
+    AreOpened (record { lengths = lengths_of l.layout; shapes = l.shapes; states = l.fn.states; cells = l.fn.cells }) l.begun l.cells l.lane

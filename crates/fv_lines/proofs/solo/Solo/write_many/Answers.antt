@@ -1,47 +1,68 @@
-use Rattle.std.proofs.Common.{◌≡◌, ◌+◌, ◌-◌, ◌++◌, ℕ, length, take, sym, ap, ◌∙◌, arith}
-use Rattle.std.specs.Prelude.{slice_index}
+use Rattle.std.proofs.Common.{◌≡◌, ◌+◌, ◌-◌, ◌++◌, ℕ, List, length, take, set, sym, ap, ◌∙◌, arith}
 use Rattle.fv_lines.specs.Hold.{from_start}
+use Rattle.fv_lines.specs.declared.begun_lane.BegunLane.{BegunLane}
 use Rattle.fv_lines.specs.declared.solo.Solo.{Solo}
-use Rattle.fv_lines.proofs.Reached.{shape_found, origin_found, cells_found, reached}
-use Rattle.fv_lines.proofs.Written.{IsWritten, lanes_written, written_long, cells_long, lanes_stay}
+use Rattle.fv_lines.proofs.Reached.{found, cells_found, reached}
+use Rattle.fv_lines.proofs.Written.{IsWritten, HaveMore, have_more, lanes_written, cells_long, places_stay, lanes_stay}
 use Rattle.fv_lines.proofs.solo.Solo.write_many.Goals as goal
 
 pub slice_bounds-put_many-end : goal.slice_bounds-put_many-end
-slice_bounds-put_many-end c =
-    (reached c.args.self.now c.args.lane c.index-self-i.result c.length-len.result c.requires.valid c.requires.there c.length-len.ensures).ends
+slice_bounds-put_many-end c = (reached c.args.self.now c.args.lane c.index-self-i.result c.requires.valid c.requires.there).ends
 
 pub put_many-requires-clause-begun : goal.put_many-requires-clause-begun
-put_many-requires-clause-begun c =
-    (reached c.args.self.now c.args.lane c.index-self-i.result c.length-len.result c.requires.valid c.requires.there c.length-len.ensures).begun
+put_many-requires-clause-begun c = (reached c.args.self.now c.args.lane c.index-self-i.result c.requires.valid c.requires.there).begun
+
+pub put_many-requires-clause-room : goal.put_many-requires-clause-room
+put_many-requires-clause-room c =
+    let at = reached c.args.self.now c.args.lane c.index-self-i.result c.requires.valid c.requires.there in
+    let lane = c.requires.valid.lanes c.args.lane c.requires.there in
+    omega (arith, c.from-index.ensures, at.written, at.history, at.len, lane.shaped, lane.framed, c.requires.room)
 
 -- what was written
-wrote : (c : goal.After-self-2-1) → IsWritten c.args.self.now c.args.lane c.index-self-i.result c.length-len.result c.put_many.new.cells c.args.values.now
+wrote : (c : goal.After-index-self-i-3)
+    → IsWritten c.args.self.now c.args.lane (found c.args.self.now c.args.lane c.index-self-i.result) c.put_many.new.cells c.args.values.now
 wrote c =
     let s : Solo = c.args.self.now in
-    let h : ℕ = (shape_found s c.args.lane c.index-self-i.result).history in
-    let o : ℕ = origin_found s c.args.lane - h in
-    let index : slice_index s.written.now c.args.lane ≡ c.from-index.result = omega (arith, c.from-index.ensures) in
+    let x : BegunLane = found s c.args.lane c.index-self-i.result in
+    let h : ℕ = x.shape.history in
+    let o : ℕ = x.origin - h in
+    let index : x.written ≡ c.from-index.result = sym c.from-index.ensures in
     record {
       valid = c.requires.valid;
       there = c.requires.there;
-      cells = c.length-len.ensures;
+      at = reached s c.args.lane c.index-self-i.result c.requires.valid c.requires.there;
       fits = omega (arith, c.requires.room);
       size = c.put_many.ensures.len;
       list = ap (λ (k : ℕ). take (h + k + length c.args.values.now) (from_start o c.put_many.new.cells)) index ∙ c.put_many.ensures.list
-          ∙ ap (λ (k : ℕ). take (h + k) (from_start o (cells_found s c.args.lane c.length-len.result)) ++ c.args.values.now) (sym index);
+          ∙ ap (λ (k : ℕ). take (h + k) (from_start o (cells_found s x)) ++ c.args.values.now) (sym index);
     }
 
+-- the records then
+abbrev after : goal.After-index-self-i-3 → List BegunLane
+after c = set c.args.self.now.begun.now c.args.lane (record {
+  shape = (found c.args.self.now c.args.lane c.index-self-i-3.result).shape;
+  place = (found c.args.self.now c.args.lane c.index-self-i-3.result).place;
+  origin = (found c.args.self.now c.args.lane c.index-self-i-3.result).origin;
+  written = (found c.args.self.now c.args.lane c.index-self-i-2.result).written + length c.args.values.now;
+})
+
+more : (c : goal.After-index-self-i-3) → HaveMore c.args.self.now c.args.lane (length c.args.values.now) (after c)
+more c =
+    have_more c.args.self.now c.args.lane (length c.args.values.now) c.index-self-i-3.result c.index-self-i-2.result c.requires.valid c.requires.there
+
 pub returns-clause-lanes : goal.returns-clause-lanes
-returns-clause-lanes c = lanes_written (wrote c)
+returns-clause-lanes c = lanes_written (wrote c) (after c) (more c)
 
 pub returns-clause-valid : goal.returns-clause-valid
 returns-clause-valid c =
     let w = wrote c in
+    let have = more c in
     record {
       shapes = c.requires.valid.shapes;
       states = c.requires.valid.states;
-      written = written_long w;
+      begun = have.count ∙ c.requires.valid.begun;
       fits = omega (arith, c.requires.valid.fits, cells_long w);
-      places = c.requires.valid.places;
-      lanes = lanes_stay w;
+      same = have.shapes ∙ c.requires.valid.same;
+      places = places_stay w (after c) have;
+      lanes = lanes_stay w (after c) have;
     }
