@@ -10,7 +10,7 @@ use crate::plan_codes::PlanCodes;
 use crate::runner::TaskRunner;
 use fv_engine_crew::{SpreadBlock, run_spread};
 use fv_engine_tasks::{Codes, Job};
-use fv_lines::{LaneShape, LaneState};
+use fv_lines::{BegunLane, LaneShape, LaneState};
 use fv_outside::Gate;
 use fv_pool::{Layout, Region};
 use fv_split_plan::Plan;
@@ -19,17 +19,17 @@ use std::marker::Sync;
 use std::sync::Wait;
 use std::thread::Threads;
 
-/// The lanes: the region that they lie in, where each of them lies, its shape and where its history starts, and by lane how many
-/// samples of the block are written. Beside them a list for each of the plan's cells.
+/// The lanes: the region that they lie in, where each of them lies, its shape and where its history starts, and a record of each for
+/// one worker that runs a block. Beside them a list for each of the plan's cells.
 #[derive(Drop)]
 pub(crate) struct Lanes {
     pub(crate) region: Region,
     pub(crate) layout: Layout,
     pub(crate) shapes: Vec<LaneShape>,
     pub(crate) states: Vec<LaneState>,
-    pub(crate) written: Vec<u32>,
+    pub(crate) begun: Vec<BegunLane>,
     pub(crate) lists: Vec<Vec<i32>>,
-    ghost entries: { AreLists (lengths_of layout) shapes.items states.items written.items (cells_of region) },
+    ghost entries: { AreLists (lengths_of layout) shapes.items states.items begun.items (cells_of region) },
     ghost held: { AreHeld (lengths_of layout) shapes.items states.items },
 }
 
@@ -153,7 +153,7 @@ impl Lanes {
             &self.layout,
             &self.shapes,
             &mut self.states,
-            &mut self.written,
+            &mut self.begun,
             &mut self.lists,
             runner,
             output,

@@ -14,7 +14,7 @@ use crate::lanes::Lanes;
 use crate::runner::TaskRunner;
 use fv_graph::Tasks;
 use fv_graph_core::Core;
-use fv_lines::{LaneShape, LaneState};
+use fv_lines::{BegunLane, LaneShape, LaneState};
 use fv_loopcode_machine::blank_rows;
 use fv_pool::{Layout, Region};
 use fv_split_plan::Plan;
@@ -110,14 +110,14 @@ pub(crate) fn blank_lanes(alloc: Global, plan: &Plan, block: u32) -> Result<Lane
     let layout = Layout::new(alloc, &lengths)?;
     let region = Region::new(alloc, layout.total())?;
     let states = Vec::from_elem(alloc, LaneState { start: 0 }, shapes.len())?;
-    let written = Vec::from_elem(alloc, 0, shapes.len())?;
+    let begun = Vec::from_elem(alloc, BegunLane::blank(), shapes.len())?;
     let lists = first_lists(alloc, plan)?;
     Ok(Lanes {
         region,
         layout,
         shapes,
         states,
-        written,
+        begun,
         lists,
     })
 }

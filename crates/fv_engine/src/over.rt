@@ -12,7 +12,7 @@ ghost use Rattle.fv_engine.specs.inner.Opening.{opening_over, IsSameRunner};
 use crate::alone::alone;
 use crate::runner::TaskRunner;
 use fv_engine_tasks::{Codes, Job};
-use fv_lines::{LaneShape, LaneState, Solo};
+use fv_lines::{BegunLane, LaneShape, LaneState, Solo};
 use fv_outside::Gate;
 use fv_pool::Layout;
 use fv_split_plan::Plan;
@@ -26,13 +26,13 @@ pub(crate) fn over<P: Codes, G: Gate>(
     layout: &Layout,
     shapes: &[LaneShape],
     states: &mut [LaneState],
-    written: &mut [u32],
+    begun: &mut [BegunLane],
     lists: &mut [Vec<i32>],
     runner: &mut TaskRunner,
     output: &mut [i32],
     gate: &G,
 )
-    requires lists { AreLists (lengths_of layout.now) shapes.now states.old written.old cells.old }
+    requires lists { AreLists (lengths_of layout.now) shapes.now states.old begun.old cells.old }
     requires lanes { AreHeld (lengths_of layout.now) shapes.now states.old }
     requires framed { AreFramed (lengths_of layout.now) shapes.now job.now.frames }
     requires count { length (lengths_of layout.now) ≡ (P.parts job.now.plan.now).lanes }
@@ -49,11 +49,11 @@ pub(crate) fn over<P: Codes, G: Gate>(
         (opening_over plan.now.tables (lengths_of layout.now) shapes.now states.old job.now.frames cells.old lists.old)
         cells.new states.new lists.new runner.new.lines.items plan.now.outputs output.new }
     ensures who { All (λ (line : Line). line.worker ≡ 0) runner.new.lines.items }
-    ensures lists { AreLists (lengths_of layout.now) shapes.now states.new written.new cells.new }
+    ensures lists { AreLists (lengths_of layout.now) shapes.now states.new begun.new cells.new }
     ensures lanes { AreHeld (lengths_of layout.now) shapes.now states.new }
     ensures runner { IsSameRunner runner.old runner.new }
 {
-    let mut solo = Solo::begin(cells, layout, shapes, states, written, job.frames);
+    let mut solo = Solo::begin(cells, layout, shapes, states, begun, job.frames);
     alone(job, plan, &mut solo, lists, runner, output, gate);
     solo.finish();
 }

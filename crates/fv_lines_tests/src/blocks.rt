@@ -4,7 +4,7 @@ ghost use Rattle.std.specs.Prelude.{◌<◌, ◌≤◌, IsTrue};
 ghost use Rattle.fv_pool.specs.Lengths.{lengths_of};
 ghost use Rattle.fv_lines.specs.Solo.{IsHeld, AreLists, AreHeld, AreFramed, AreFull, IsSolo, lanes_of};
 
-use fv_lines::{LaneShape, LaneState, Solo};
+use fv_lines::{BegunLane, LaneShape, LaneState, Solo};
 use fv_pool::{Layout, Region};
 use std::process::Abort;
 use std::test::Fail;
@@ -16,15 +16,15 @@ fn are_lists(
     layout: &Layout,
     shapes: &[LaneShape],
     states: &[LaneState],
-    written: &[u32],
+    begun: &[BegunLane],
     cells: &[i32],
 ) -> bool
-    ensures { IsTrue result → AreLists (lengths_of layout.now) shapes.now states.now written.now cells.now }
+    ensures { IsTrue result → AreLists (lengths_of layout.now) shapes.now states.now begun.now cells.now }
 {
     let lanes = layout.len();
     shapes.len() as u64 == lanes
         && states.len() as u64 == lanes
-        && written.len() as u64 == lanes
+        && begun.len() as u64 == lanes
         && layout.total() <= cells.len() as u64
 }
 
@@ -46,15 +46,15 @@ fn may_begin(
     layout: &Layout,
     shapes: &[LaneShape],
     states: &[LaneState],
-    written: &[u32],
+    begun: &[BegunLane],
     cells: &[i32],
     frames: u32,
 ) -> bool
-    ensures lists { IsTrue result → AreLists (lengths_of layout.now) shapes.now states.now written.now cells.now }
+    ensures lists { IsTrue result → AreLists (lengths_of layout.now) shapes.now states.now begun.now cells.now }
     ensures held { IsTrue result → AreHeld (lengths_of layout.now) shapes.now states.now }
     ensures framed { IsTrue result → AreFramed (lengths_of layout.now) shapes.now frames }
 {
-    if !are_lists(layout, shapes, states, written, cells) {
+    if !are_lists(layout, shapes, states, begun, cells) {
         return false;
     }
     for lane in 0..layout.len() {
@@ -131,11 +131,11 @@ fn play(
     layout: &Layout,
     shapes: &[LaneShape],
     states: &mut [LaneState],
-    written: &mut [u32],
+    begun: &mut [BegunLane],
     first: i32,
 ) {
-    assert!(rt; may_begin(layout, shapes, states, written, cells, FRAMES));
-    let mut solo = Solo::begin(cells, layout, shapes, states, written, FRAMES);
+    assert!(rt; may_begin(layout, shapes, states, begun, cells, FRAMES));
+    let mut solo = Solo::begin(cells, layout, shapes, states, begun, FRAMES);
     for n in 0..u64::from(FRAMES) {
         let now = first.saturating_add(n as i32);
         append_each(rt, &mut solo, &[now, 7, 0i32.saturating_sub(now)]);
@@ -171,7 +171,7 @@ fn lanes_go_on_from_block_to_block(rt: HostRuntime) -> Result<(), Fail> {
         &[shapes[0].len(), shapes[1].len(), shapes[2].len()],
     )?;
     let mut states = [LaneState { start: 0 }; 3];
-    let mut written = [9; 3];
+    let mut begun = [BegunLane::blank(); 3];
     let mut region = Region::new(rt.alloc(), layout.total())?;
     for first in [1, 5, 9, 13, 17, 21, 25, 29] {
         play(
@@ -180,7 +180,7 @@ fn lanes_go_on_from_block_to_block(rt: HostRuntime) -> Result<(), Fail> {
             &layout,
             &shapes,
             &mut states,
-            &mut written,
+            &mut begun,
             first,
         );
     }
@@ -194,11 +194,11 @@ fn play_at_once(
     layout: &Layout,
     shapes: &[LaneShape],
     states: &mut [LaneState],
-    written: &mut [u32],
+    begun: &mut [BegunLane],
     first: i32,
 ) {
-    assert!(rt; may_begin(layout, shapes, states, written, cells, FRAMES));
-    let mut solo = Solo::begin(cells, layout, shapes, states, written, FRAMES);
+    assert!(rt; may_begin(layout, shapes, states, begun, cells, FRAMES));
+    let mut solo = Solo::begin(cells, layout, shapes, states, begun, FRAMES);
     let now = counted_from(first);
     assert!(rt; solo.len() == 1 && solo.room(0) >= FRAMES);
     solo.append_many(0, &now);
@@ -215,7 +215,7 @@ fn many_samples_pass_the_end_of_a_ring(rt: HostRuntime) -> Result<(), Fail> {
     let shapes = [LaneShape::new(17, FRAMES)];
     let layout = Layout::new(rt.alloc(), &[shapes[0].len()])?;
     let mut states = [LaneState { start: 3 }];
-    let mut written = [0];
+    let mut begun = [BegunLane::blank()];
     let mut region = Region::new(rt.alloc(), layout.total())?;
     for first in [1, 5, 9, 13, 17, 21, 25, 29, 33] {
         play_at_once(
@@ -224,7 +224,7 @@ fn many_samples_pass_the_end_of_a_ring(rt: HostRuntime) -> Result<(), Fail> {
             &layout,
             &shapes,
             &mut states,
-            &mut written,
+            &mut begun,
             first,
         );
     }

@@ -11,11 +11,11 @@ use Rattle.fv_lines.specs.declared.shape.LaneState.{LaneState}
 use Rattle.fv_lines.proofs.lemmas.Tables.{shapes_fit}
 use Rattle.fv_split_plan.specs.headline.View.{lane_info}
 use Rattle.fv_engine.proofs.Made.{all_held, starts_zero, nothing_yet}
-use Rattle.fv_engine.proofs.make.blank_lanes.Goals.{In_ok-written}
+use Rattle.fv_engine.proofs.make.blank_lanes.Goals.{In_ok-begun}
 use Rattle.fv_engine.proofs.make.blank_lanes.Goals as goal
 
 -- what the lists of the lanes hold
-module _ (c : In_ok-written) where
+module _ (c : In_ok-begun) where
   abbrev shapes : List LaneShape
   shapes = c.in_ok-shapes.shapes.items
 
@@ -49,18 +49,18 @@ module _ (c : In_ok-written) where
 
 pub invariant_of-result : goal.invariant_of-result
 invariant_of-result c =
-    let d = (goal.at.invariant_of-result c).In_ok-written in
+    let d = (goal.at.invariant_of-result c).In_ok-begun in
     let many = count d in let long = ap length (cells_are d) ∙ length-replicate (sum (lengths d)) (pos 0) in
-    let written : length c.in_ok-written.written.items ≡ length (lengths d) =
-    omega (arith, c.in_ok-written.ensures.len, c.len-2.ensures, c.in_ok-shapes.shapes.ok.0, c.in_ok-written.written.ok.0, many) in
+    let begun : length c.in_ok-begun.begun.items ≡ length (lengths d) =
+    omega (arith, c.in_ok-begun.ensures.len, c.len-2.ensures, c.in_ok-shapes.shapes.ok.0, c.in_ok-begun.begun.ok.0, many) in
     record {
-      entries = (sym many, ap length (states_are d) ∙ length-replicate (length (shapes d)) (blank d) ∙ sym many, written, omega (arith, long));
+      entries = (sym many, ap length (states_are d) ∙ length-replicate (length (shapes d)) (blank d) ∙ sym many, begun, omega (arith, long));
       held = all_held (lengths d) (shapes d) (states d) (lengths_are d) (starts d);
     }
 
 pub returns : goal.returns
 returns c =
-    let d = (goal.at.returns c).In_ok-written in let are = c.in_ok-shapes.ensures in
+    let d = (goal.at.returns c).In_ok-begun in let are = c.in_ok-shapes.ensures in
     record {
       shapes = are;
       blank = λ l i v.

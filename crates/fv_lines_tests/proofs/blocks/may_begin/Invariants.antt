@@ -6,7 +6,7 @@ use Rattle.fv_lines_tests.proofs.blocks.may_begin.Given as goal
 
 abbrev pub invariant-loop-lane : goal.invariant-loop-lane
 invariant-loop-lane l = record {
-  lists : AreLists (lengths_of l.layout) l.shapes l.states l.written l.cells;
+  lists : AreLists (lengths_of l.layout) l.shapes l.states l.begun l.cells;
   held : (j : ℕ) → j < l.lane → IsHeld (history_at l.shapes j) (len_at l.shapes j) (slice_index (lengths_of l.layout) j) (start_at l.states j);
   framed : (j : ℕ) → j < l.lane → l.frames ≤ block_at l.shapes j;
 }

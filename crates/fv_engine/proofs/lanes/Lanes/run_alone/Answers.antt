@@ -8,6 +8,7 @@ use Rattle.fv_loopcode.specs.headline.State.{State}
 use Rattle.fv_lines.specs.Solo.{AreHeld, AreLists}
 use Rattle.fv_lines.specs.declared.shape.LaneShape.{LaneShape}
 use Rattle.fv_lines.specs.declared.shape.LaneState.{LaneState}
+use Rattle.fv_lines.specs.declared.begun_lane.BegunLane.{BegunLane}
 use Rattle.fv_engine_tasks.specs.Block.{Block, IsReal}
 use Rattle.fv_engine_tasks.specs.Jobs.{block_of}
 use Rattle.fv_engine_crew.specs.Ran.{Ran}
@@ -53,8 +54,8 @@ module _ (g : Over) (c : After-over g) where
   states_are : states ≡ c.over.new.states
   states_are = with_items_is old.states c.over.new.states (omega (arith, c.over.auto.states, c.deref_mut.ensures.len, old.states.ok.0))
 
-  written_are : (with_items old.written c.over.new.written).items ≡ c.over.new.written
-  written_are = with_items_is old.written c.over.new.written (omega (arith, c.over.auto.written, c.deref_mut-2.ensures.len, old.written.ok.0))
+  begun_are : (with_items old.begun c.over.new.begun).items ≡ c.over.new.begun
+  begun_are = with_items_is old.begun c.over.new.begun (omega (arith, c.over.auto.begun, c.deref_mut-2.ensures.len, old.begun.ok.0))
 
   abbrev rows : List (Vec ℤ)
   rows = (with_items old.lists c.over.new.lists).items
@@ -62,13 +63,13 @@ module _ (g : Over) (c : After-over g) where
   rows_are : rows ≡ c.over.new.lists
   rows_are = with_items_is old.lists c.over.new.lists (omega (arith, c.over.auto.lists, c.deref_mut-3.ensures.len, old.lists.ok.0))
 
-  entries : AreLists lengths old.shapes.items states (with_items old.written c.over.new.written).items cells
+  entries : AreLists lengths old.shapes.items states (with_items old.begun c.over.new.begun).items cells
   entries =
-      let over = c.over.new in let written = (with_items old.written over.written).items in
-      subst (λ (x : List ℤ). AreLists lengths old.shapes.items states written x) (sym cells_are)
-      (subst (λ (x : List ℕ). AreLists lengths old.shapes.items states x over.cells) (sym written_are)
-      (subst (λ (x : List LaneState). AreLists lengths old.shapes.items x over.written over.cells) (sym states_are)
-      (subst (λ (x : List LaneShape). AreLists lengths x over.states over.written over.cells) c.deref.ensures.value c.over.ensures.lists)))
+      let over = c.over.new in let begun = (with_items old.begun over.begun).items in
+      subst (λ (x : List ℤ). AreLists lengths old.shapes.items states begun x) (sym cells_are)
+      (subst (λ (x : List BegunLane). AreLists lengths old.shapes.items states x over.cells) (sym begun_are)
+      (subst (λ (x : List LaneState). AreLists lengths old.shapes.items x over.begun over.cells) (sym states_are)
+      (subst (λ (x : List LaneShape). AreLists lengths x over.states over.begun over.cells) c.deref.ensures.value c.over.ensures.lists)))
 
   lanes : AreHeld lengths old.shapes.items states
   lanes =

@@ -59,7 +59,7 @@ module _ (g : Over) (c : After-run_spread g) where
   states_are : states ≡ c.run_spread.new.states
   states_are = with_items_is old.states c.run_spread.new.states (omega (arith, c.run_spread.auto.states, c.deref_mut.ensures.len, old.states.ok.0))
 
-  entries : AreLists lengths shapes states old.written.items cells
+  entries : AreLists lengths shapes states old.begun.items cells
   entries =
       let s = ap length states_are in let k = ap length cells_are in (
         old.entries.0,
