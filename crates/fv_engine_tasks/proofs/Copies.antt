@@ -1,35 +1,29 @@
--- A frame written behind others.
-use Rattle.std.proofs.Common.{◌≡◌, inl, inr, ℕ, suc, ◌+◌, ◌*◌, ◌<◌, ◌≤◌, List, ◌++◌, length, take, map, get_or, ℤ, pos, sym}
-use Rattle.std.proofs.Common.{ap, ◌∙◌, arith, mul-le-mul_right, suc-mul}
+-- Numbers that are written into frames, one at a time.
+use Rattle.std.proofs.Common.{◌≡◌, inl, inr, ℕ, ◌+◌, ◌-◌, ◌*◌, ◌/◌, ◌%◌, ◌<◌, List, get_or, set, ℤ, pos, sym, subst, ap, ◌∙◌, arith}
 use Rattle.std.proofs.lemmas.Bool.{cases_lt}
-use Rattle.std.proofs.lemmas.List.{get_or-append-add, get_or_append_left, get_or-take, get_or-map, length-take, length-map}
-use Rattle.std.proofs.lemmas.Slice.{take-put_mid}
-use borrow.Rule.Slice.PartMut.{put_mid}
+use Rattle.std.proofs.lemmas.Nat.{div-mul-add, mod-mul-add}
+use Rattle.std.proofs.lemmas.List.{get_or-set_other}
 
-pub put_at : (a k w : ℕ) (xs ys : List ℤ) → length ys ≡ w → a + w ≤ length xs → (i : ℕ) → i < a + w
-    → get_or (put_mid a k xs ys) i (pos 0) ≡ get_or (take a xs ++ ys) i (pos 0)
-put_at a k w xs ys e h i l =
-    let front = take-put_mid a k xs ys (a + w) (omega (arith, e)) (omega (arith, h)) in
-    sym (get_or-take (a + w) (put_mid a k xs ys) i (pos 0) l) ∙ ap (λ (zs : List ℤ). get_or zs i (pos 0)) front
+-- a place stands in one frame only
+pub at_another : (w s j t p : ℕ) → j < w → p < w → (j ≡ p → s ≡ t → ⊥) → s * w + j ≡ t * w + p → ⊥
+at_another w s j t p inside there apart same =
+    apart (sym (mod-mul-add s w j inside) ∙ ap (λ x. x % w) same ∙ mod-mul-add t w p there)
+    (sym (div-mul-add s w j inside) ∙ ap (λ x. x / w) same ∙ div-mul-add t w p there)
 
--- frames t < n stand, and frame n is written
-pub frame_more : (n k w : ℕ) (xs : List ℤ) (f : ℕ → ℕ → ℤ) (lanes : List ℕ) (ys : List ℤ) → length lanes ≡ w → ys ≡ map (f n) lanes
-    → n * w + w ≤ length xs
-    → ((t j : ℕ) → t < n → j < w → get_or xs (t * w + j) (pos 0) ≡ f t (get_or lanes j 0))
-    → (t j : ℕ) → t < n + 1 → j < w → get_or (put_mid (n * w) k xs ys) (t * w + j) (pos 0) ≡ f t (get_or lanes j 0)
-frame_more n k w xs f lanes ys long is h old t j l m =
-    let many : length ys ≡ w = ap length is ∙ length-map lanes (f n) ∙ long in
-    let front : length (take (n * w) xs) ≡ n * w = length-take (n * w) xs ∙ (omega (arith, h)) in
-    elim (cases_lt t n) [
-      | inl i ↦
-          let q : suc t * w ≤ n * w = mul-le-mul_right w i in let r = suc-mul t w in
-          put_at (n * w) k w xs ys many h (t * w + j) (omega (arith, q, r, m))
-          ∙ get_or_append_left (take (n * w) xs) ys (pos 0) (t * w + j) (omega (arith, front, q, r, m))
-          ∙ get_or-take (n * w) xs (t * w + j) (pos 0) (omega (arith, q, r, m)) ∙ old t j i m
-      | inr i ↦
-          let e : t ≡ n = omega (arith, l, i) in let z : t * w + j ≡ n * w + j = ap (λ x. x * w + j) e in
-          put_at (n * w) k w xs ys many h (t * w + j) (omega (arith, z, m))
-          ∙ ap (λ x. get_or (take (n * w) xs ++ ys) x (pos 0)) (z ∙ (omega (arith, front))) ∙ get_or-append-add (take (n * w) xs) ys j (pos 0)
-          ∙ ap (λ (zs : List ℤ). get_or zs j (pos 0)) is ∙ get_or-map (f n) lanes j 0 (pos 0) (omega (arith, long, m))
-          ∙ ap (λ x. f x (get_or lanes j 0)) (sym e)
-    ]
+pub others_stay : (w s j t p : ℕ) (xs : List ℤ) (x : ℤ) → j < w → p < w → (j ≡ p → s ≡ t → ⊥)
+    → get_or (set xs (t * w + p) x) (s * w + j) (pos 0) ≡ get_or xs (s * w + j) (pos 0)
+others_stay w s j t p xs x inside there apart =
+    get_or-set_other xs (t * w + p) (s * w + j) x (pos 0) (at_another w s j t p inside there apart)
+
+-- the frames before `from` stand, and those of a strip are written behind them
+pub strip_more : (from count w p : ℕ) (old new : List ℤ) (f : ℕ → ℤ)
+    → ((k : ℕ) → k < count → get_or new ((from + k) * w + p) (pos 0) ≡ f (from + k))
+    → ((t : ℕ) → t < from → get_or new (t * w + p) (pos 0) ≡ get_or old (t * w + p) (pos 0))
+    → ((t : ℕ) → t < from → get_or old (t * w + p) (pos 0) ≡ f t)
+    → (t : ℕ) → t < from + count → get_or new (t * w + p) (pos 0) ≡ f t
+strip_more from count w p old new f now same before t l = elim (cases_lt t from) [
+  | inl i ↦ same t i ∙ before t i
+  | inr i ↦
+      let e : from + (t - from) ≡ t = omega (arith, i) in
+      subst (λ (x : ℕ). get_or new (x * w + p) (pos 0) ≡ f x) e (now (t - from) (omega (arith, i, l)))
+]

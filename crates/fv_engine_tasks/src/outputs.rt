@@ -1,20 +1,94 @@
 // The samples of the outputs, frame by frame.
 
-ghost use Rattle.std.specs.Prelude.{◌≡◌, ℕ, ◌+◌, ◌*◌, ◌^◌, ◌<◌, ◌≤◌, length, map, All, slice_index_or, pos};
+ghost use Rattle.std.specs.Prelude.{◌≡◌, ℕ, ◌+◌, ◌*◌, ◌^◌, ◌<◌, ◌≤◌, length, All, slice_index_or, pos};
 ghost use Rattle.fv_engine_tasks.specs.Outputs.{CanRead, sample_of};
 
 use fv_loopcode::Store;
 
-// One frame of them.
-fn copy_frame<S: Store>(lanes: &[u64], index: u64, store: &S, frame: &mut [i32])
-    requires valid { S.is_valid store.now }
-    requires long { length frame.old ≡ length lanes.now }
-    requires small { index < 2 ^ 32 }
-    requires there { All (CanRead (S.state store.now).lanes index) lanes.now }
-    ensures { frame.new ≡ map (sample_of (S.state store.now).lanes index) lanes.now }
+// How many samples of a lane are copied at a time, where a frame has several.
+const STRIP: usize = 32;
+
+// A number of frame t.
+fn put(output: &mut [i32], t: usize, place: usize, width: usize, x: i32)
+    requires inside { place < width }
+    requires there { t * width + place < length output.old }
+    ensures long { length output.new ≡ length output.old }
+    ensures put { slice_index_or output.new (t * width + place) (pos 0) ≡ x }
+    ensures others { (s j : ℕ) → j < width → (j ≡ place → s ≡ t → ⊥) → slice_index_or output.new (s * width + j) (pos 0) ≡ slice_index_or output.old (s * width + j) (pos 0) }
 {
-    for j in 0..lanes.len() {
-        frame[j] = store.load(lanes[j], index, 0);
+    output[t * width + place] = x;
+}
+
+// The numbers of a row, one in each frame, from one frame on.
+fn put_row(row: &[i32], from: usize, place: usize, width: usize, output: &mut [i32])
+    requires inside { place < width }
+    requires there { (from + length row.now) * width ≤ length output.old }
+    ensures long { length output.new ≡ length output.old }
+    ensures put { (k : ℕ) → k < length row.now → slice_index_or output.new ((from + k) * width + place) (pos 0) ≡ slice_index_or row.now k (pos 0) }
+    ensures others { (s j : ℕ) → j < width → (j ≡ place → from ≤ s → ⊥) → slice_index_or output.new (s * width + j) (pos 0) ≡ slice_index_or output.old (s * width + j) (pos 0) }
+{
+    for k in 0..row.len() {
+        put(output, from + k, place, width, row[k]);
+    }
+}
+
+// As many samples of a lane as the row has, from frame `from` on, each at its place of its frame. The row is room for them.
+fn copy_strip<S: Store>(
+    lane: u64,
+    from: u64,
+    place: usize,
+    width: usize,
+    store: &S,
+    row: &mut [i32],
+    output: &mut [i32],
+)
+    requires valid { S.is_valid store.now }
+    requires inside { place < width }
+    requires small { from + length row.old < 2 ^ 32 }
+    requires there { (from + length row.old) * width ≤ length output.old }
+    requires lane { lane < length (S.state store.now).lanes }
+    requires samples { (k : ℕ) → k < length row.old → CanRead (S.state store.now).lanes (from + k) lane }
+    ensures row { length row.new ≡ length row.old }
+    ensures long { length output.new ≡ length output.old }
+    ensures put { (k : ℕ) → k < length row.old → slice_index_or output.new ((from + k) * width + place) (pos 0) ≡ sample_of (S.state store.now).lanes (from + k) lane }
+    ensures others { (s j : ℕ) → j < width → (j ≡ place → from ≤ s → ⊥) → slice_index_or output.new (s * width + j) (pos 0) ≡ slice_index_or output.old (s * width + j) (pos 0) }
+{
+    store.load_many(lane, from, 0, row);
+    put_row(row, from as usize, place, width, output);
+}
+
+// The samples of a lane, each at its place of its frame.
+fn copy_lane<S: Store>(
+    lane: u64,
+    place: usize,
+    width: usize,
+    frames: u64,
+    store: &S,
+    output: &mut [i32],
+)
+    requires valid { S.is_valid store.now }
+    requires inside { place < width }
+    requires small { frames < 2 ^ 32 }
+    requires long { length output.old ≡ frames * width }
+    requires there { (t : ℕ) → t < frames → CanRead (S.state store.now).lanes t lane }
+    ensures long { length output.new ≡ length output.old }
+    ensures put { (t : ℕ) → t < frames → slice_index_or output.new (t * width + place) (pos 0) ≡ sample_of (S.state store.now).lanes t lane }
+    ensures others { (t j : ℕ) → j < width → (j ≡ place → ⊥) → slice_index_or output.new (t * width + j) (pos 0) ≡ slice_index_or output.old (t * width + j) (pos 0) }
+{
+    let mut row = [0; STRIP];
+    let mut from = 0;
+    'strips: while from < frames {
+        let count = (frames - from).min(STRIP as u64);
+        copy_strip(
+            lane,
+            from,
+            place,
+            width,
+            store,
+            &mut row[..count as usize],
+            output,
+        );
+        from += count;
     }
 }
 
@@ -28,9 +102,11 @@ pub fn copy_outputs<S: Store>(lanes: &[u64], frames: u64, store: &S, output: &mu
     ensures samples { (t j : ℕ) → t < frames → j < length lanes.now →
         slice_index_or output.new (t * length lanes.now + j) (pos 0) ≡ sample_of (S.state store.now).lanes t (slice_index_or lanes.now j 0) }
 {
-    let width = lanes.len();
-    for t in 0..frames {
-        let start = t as usize * width;
-        copy_frame(lanes, t, store, &mut output[start..start + width]);
+    if lanes.len() == 1 && frames > 0 {
+        store.load_many(lanes[0], 0, 0, output);
+        return;
+    }
+    for j in 0..lanes.len() {
+        copy_lane(lanes[j], j, lanes.len(), frames, store, output);
     }
 }
