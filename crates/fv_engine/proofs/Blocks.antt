@@ -14,8 +14,6 @@ use Rattle.fv_graph.specs.Graph.{Graph}
 use Rattle.fv_loopcode.specs.headline.Code.{NamesHeld}
 use Rattle.fv_loopcode.specs.headline.State.{State}
 use Rattle.fv_pool.specs.Region.{cells_of}
-use Rattle.fv_pool.specs.Lengths.{lengths_of}
-use Rattle.fv_pool.specs.declared.layout.Layout.{Layout}
 use Rattle.fv_lines.specs.Solo.{AreFramed}
 use Rattle.fv_lines.specs.declared.shape.LaneState.{LaneState}
 use Rattle.fv_split_plan.specs.headline.View.{PlanView}
@@ -79,7 +77,7 @@ same_block e frames input controls p q = ap₂ (λ (k : ℕ) (xs : List ℤ). bl
 abbrev pub view_with : Inside → Lanes → EngineView
 view_with e lanes = record (view_of e) {
   region = cells_of lanes.region;
-  lengths = lengths_of lanes.layout;
+  lengths = lanes.layout;
   starts = map (λ (s : LaneState). s.start) lanes.states.items;
   cells = lists_of lanes.lists.items;
 }
@@ -130,7 +128,7 @@ module _ {e : Inside} {v : EngineView} {frames : ℕ} {input controls : List ℤ
       ∙ ap (λ (x : EngineView). x.plan.loops * vectors_of frames x.vector) call.view_is
 
   abbrev lengths : List ℕ
-  lengths = lengths_of e.lanes.layout
+  lengths = e.lanes.layout
 
   -- the places as they open
   abbrev first : State
@@ -199,7 +197,7 @@ module _ {e : Inside} {v : EngineView} {frames : ℕ} {input controls : List ℤ
 
       -- the engine with these lanes has the parts that it had
       pub is_kept : with_state (view_of e) cells starts lists ≡ view_with e lanes
-      is_kept = ap (λ (x : Layout). record (view_of e) { region = cells; lengths = lengths_of x; starts = starts; cells = lists }) (sym same.layout)
+      is_kept = ap (λ (x : List ℕ). record (view_of e) { region = cells; lengths = x; starts = starts; cells = lists }) (sym same.layout)
 
       ran_so : Ran t.tasks (block_in (view_of e) frames controls input) lengths e.lanes.shapes.items first cells lanes.states.items lanes.lists.items lines
           e.plan.outputs output

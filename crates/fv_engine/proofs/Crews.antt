@@ -3,7 +3,6 @@ use Rattle.std.proofs.Common.{◌≡◌, ℕ, ◌<◌, ℤ, List, length, sum, s
 use Rattle.std.proofs.lemmas.List.{ext_get_or, length-map}
 use Rattle.fv_base.proofs.lemmas.Lists.{table_same}
 use Rattle.fv_outside.specs.headline.Tasks.{Tasks}
-use Rattle.fv_pool.specs.Lengths.{lengths_of}
 use Rattle.fv_pool.specs.Region.{cells_of}
 use Rattle.fv_loopcode.specs.headline.Lanes.{Lane}
 use Rattle.fv_engine.specs.inner.Opening.{opening_over}
@@ -22,11 +21,11 @@ use Rattle.fv_engine.specs.declared.lanes.Lanes.{Lanes}
 use Rattle.fv_engine.specs.declared.runner.TaskRunner.{TaskRunner}
 
 -- the parts have the lengths of the shapes
-pub lengths_are : (l : Lanes) → lengths_of l.layout ≡ lengths_by l.shapes.items
+pub lengths_are : (l : Lanes) → l.layout ≡ lengths_by l.shapes.items
 lengths_are l =
-    let many : length (lengths_of l.layout) ≡ length (lengths_by l.shapes.items) =
+    let many : length l.layout ≡ length (lengths_by l.shapes.items) =
     sym l.entries.0 ∙ sym (length-map l.shapes.items (λ (s : LaneShape). s.len)) in
-    ext_get_or 0 (lengths_of l.layout) (lengths_by l.shapes.items) many (λ i m. (l.held i m).0)
+    ext_get_or 0 l.layout (lengths_by l.shapes.items) many (λ i m. (l.held i m).0)
 
 -- what is lent of lanes to a crew are their shapes, states and cells
 pub record AreLent (l : Lanes) (shapes : List LaneShape) (states : List LaneState) (cells : List ℤ) : Type 0 where
@@ -35,22 +34,22 @@ pub record AreLent (l : Lanes) (shapes : List LaneShape) (states : List LaneStat
   pub cells_are : cells ≡ cells_of l.region
 
 module _ {l : Lanes} {shapes : List LaneShape} {states : List LaneState} {cells : List ℤ} (lent : AreLent l shapes states cells) where
-  by_shapes : lengths_by shapes ≡ lengths_of l.layout
+  by_shapes : lengths_by shapes ≡ l.layout
   by_shapes = ap lengths_by lent.shapes_are ∙ sym (lengths_are l)
 
   -- what holds of the lanes holds of what is lent, and the other way round
   module _ (P : List ℕ → List LaneShape → List LaneState → List ℤ → Type 0) where
-    pub of_lent : P (lengths_of l.layout) l.shapes.items l.states.items (cells_of l.region) → P (lengths_by shapes) shapes states cells
+    pub of_lent : P l.layout l.shapes.items l.states.items (cells_of l.region) → P (lengths_by shapes) shapes states cells
     of_lent p =
-        subst (λ x. P x shapes states cells) (sym by_shapes) (subst (λ x. P (lengths_of l.layout) x states cells) (sym lent.shapes_are)
-        (subst (λ x. P (lengths_of l.layout) l.shapes.items x cells) (sym lent.states_are)
-        (subst (λ x. P (lengths_of l.layout) l.shapes.items l.states.items x) (sym lent.cells_are) p)))
+        subst (λ x. P x shapes states cells) (sym by_shapes) (subst (λ x. P l.layout x states cells) (sym lent.shapes_are)
+        (subst (λ x. P l.layout l.shapes.items x cells) (sym lent.states_are)
+        (subst (λ x. P l.layout l.shapes.items l.states.items x) (sym lent.cells_are) p)))
 
-    pub of_lanes : P (lengths_by shapes) shapes states cells → P (lengths_of l.layout) l.shapes.items l.states.items (cells_of l.region)
+    pub of_lanes : P (lengths_by shapes) shapes states cells → P l.layout l.shapes.items l.states.items (cells_of l.region)
     of_lanes p =
-        subst (λ x. P (lengths_of l.layout) l.shapes.items l.states.items x) lent.cells_are
-        (subst (λ x. P (lengths_of l.layout) l.shapes.items x cells) lent.states_are
-        (subst (λ x. P (lengths_of l.layout) x states cells) lent.shapes_are (subst (λ x. P x shapes states cells) by_shapes p)))
+        subst (λ x. P l.layout l.shapes.items l.states.items x) lent.cells_are
+        (subst (λ x. P l.layout l.shapes.items x cells) lent.states_are
+        (subst (λ x. P l.layout x states cells) lent.shapes_are (subst (λ x. P x shapes states cells) by_shapes p)))
 
 -- a crew may run a block over what is lent to it
 pub may_run_over : (b : SpreadBlock) {l : Lanes} {r : TaskRunner} {states : List LaneState} {cells : List ℤ} → AreLent l b.shapes.now states cells

@@ -4,7 +4,6 @@ use Rattle.fv_signal.specs.Frames.{Stream}
 use Rattle.fv_outside.specs.headline.Tasks.{reads_loop}
 use Rattle.fv_graph.specs.Graph.{Graph}
 use Rattle.fv_pool.specs.Layout.{part}
-use Rattle.fv_pool.specs.Lengths.{lengths_of}
 use Rattle.fv_pool.specs.Region.{cells_of}
 use Rattle.fv_lines.specs.Hold.{from_start}
 use Rattle.fv_lines.specs.Shape.{IsLaneLength}
@@ -41,7 +40,7 @@ pub record BeginAsTables (p : PlanView) (n : ℕ) (lists : List (List ℤ)) : Ty
 pub record AreLanes (p : PlanView) (block : ℕ) (lanes : Lanes) : Type 0 where
   pub shapes : AreShapes p block lanes.shapes.items
   pub blank : (l : ℕ) → l < length p.lanes → (v : Stream) →
-      take (lane_info p l).history (from_start (start_at lanes.states.items l) (part (lengths_of lanes.layout) l (cells_of lanes.region)))
+      take (lane_info p l).history (from_start (start_at lanes.states.items l) (part lanes.layout l (cells_of lanes.region)))
       ≡ past (lane_info p l).history v 0
   pub lists : BeginAsTables p (length p.cells) (lists_of lanes.lists.items)
 

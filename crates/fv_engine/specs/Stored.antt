@@ -3,7 +3,6 @@ use Rattle.std.specs.Prelude.{◌≡◌, ℕ, ◌<◌, ◌≤◌, length, map, I
 use Rattle.fv_base.specs.declared.limits.TheConstants.{MOST_BLOCK, MOST_CHANNELS, MOST_VECTORS}
 use Rattle.fv_loopcode.specs.headline.Code.{NamesInput}
 use Rattle.fv_pool.specs.Region.{cells_of}
-use Rattle.fv_pool.specs.Lengths.{lengths_of}
 use Rattle.fv_lines.specs.declared.shape.LaneState.{LaneState}
 use Rattle.fv_split_plan.specs.headline.View.{PlanView, code_of}
 use Rattle.fv_split_plan.specs.Rows.{lists_of}
@@ -24,7 +23,7 @@ view_of e = record {
   block = e.sizes.block;
   vector = e.sizes.vector;
   region = cells_of e.lanes.region;
-  lengths = lengths_of e.lanes.layout;
+  lengths = e.lanes.layout;
   starts = map (λ (s : LaneState). s.start) e.lanes.states.items;
   cells = lists_of e.lanes.lists.items;
 }

@@ -8,7 +8,6 @@ ghost use Rattle.fv_outside.specs.headline.Journal.{Told, BlockEntry};
 ghost use Rattle.fv_outside.specs.Journal.{room_after};
 ghost use Rattle.fv_loopcode.specs.headline.Code.{NamesHeld, NamesInput};
 ghost use Rattle.fv_pool.specs.Region.{cells_of};
-ghost use Rattle.fv_pool.specs.Lengths.{lengths_of};
 ghost use Rattle.fv_split_plan.specs.headline.View.{lane_info, code_of};
 ghost use Rattle.fv_split_plan.specs.headline.Plans.{PlanStands};
 ghost use Rattle.fv_engine_tasks.specs.headline.Block.{vectors_of};
@@ -173,8 +172,8 @@ impl Engine {
 
     /// The parts of the region, one for each lane.
     pub fn layout(&self) -> &Layout
-        ensures value { lengths_of result.now ≡ self.now.lengths }
-        ensures lanes { HaveLengths self.now.plan self.now.block (lengths_of result.now) }
+        ensures value { result.now ≡ self.now.lengths }
+        ensures lanes { HaveLengths self.now.plan self.now.block result.now }
     {
         &self.lanes.layout
     }

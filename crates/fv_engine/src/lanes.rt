@@ -1,6 +1,5 @@
 // The lanes and the cells of an engine.
 
-ghost use Rattle.fv_pool.specs.Lengths.{lengths_of};
 ghost use Rattle.fv_pool.specs.Region.{cells_of};
 ghost use Rattle.fv_lines.specs.Solo.{AreLists, AreHeld};
 
@@ -29,8 +28,8 @@ pub(crate) struct Lanes {
     pub(crate) states: Vec<LaneState>,
     pub(crate) begun: Vec<BegunLane>,
     pub(crate) lists: Vec<Vec<i32>>,
-    ghost entries: { AreLists (lengths_of layout) shapes.items states.items begun.items (cells_of region) },
-    ghost held: { AreHeld (lengths_of layout) shapes.items states.items },
+    ghost entries: { AreLists layout shapes.items states.items begun.items (cells_of region) },
+    ghost held: { AreHeld layout shapes.items states.items },
 }
 
 impl Lanes {

@@ -2,7 +2,6 @@
 
 ghost use Rattle.std.specs.Prelude.{◌≡◌, ℕ, ◌*◌, ◌<◌, length, [], All};
 ghost use Rattle.fv_outside.specs.declared.gate.Line.{Line};
-ghost use Rattle.fv_pool.specs.Lengths.{lengths_of};
 ghost use Rattle.fv_lines.specs.Solo.{AreLists, AreHeld, AreFramed};
 ghost use Rattle.fv_engine_tasks.specs.Block.{IsReal};
 ghost use Rattle.fv_engine_tasks.specs.Jobs.{IsJob, block_of, RegistersFit, RowsFit};
@@ -32,25 +31,25 @@ pub(crate) fn over<P: Codes, G: Gate>(
     output: &mut [i32],
     gate: &G,
 )
-    requires lists { AreLists (lengths_of layout.now) shapes.now states.old begun.old cells.old }
-    requires lanes { AreHeld (lengths_of layout.now) shapes.now states.old }
-    requires framed { AreFramed (lengths_of layout.now) shapes.now job.now.frames }
-    requires count { length (lengths_of layout.now) ≡ (P.parts job.now.plan.now).lanes }
+    requires lists { AreLists layout.now shapes.now states.old begun.old cells.old }
+    requires lanes { AreHeld layout.now shapes.now states.old }
+    requires framed { AreFramed layout.now shapes.now job.now.frames }
+    requires count { length layout.now ≡ (P.parts job.now.plan.now).lanes }
     requires count_cells { length lists.old ≡ (P.parts job.now.plan.now).cells }
     requires job { IsJob (block_of P.parts job.now) runner.old.tasks.tasks }
     requires real { IsReal (block_of P.parts job.now)
-        (opening_over plan.now.tables (lengths_of layout.now) shapes.now states.old job.now.frames cells.old lists.old) }
+        (opening_over plan.now.tables layout.now shapes.now states.old job.now.frames cells.old lists.old) }
     requires rows { RowsFit (P.parts job.now.plan.now) (length runner.old.rows.items) }
     requires regs { RegistersFit (P.parts job.now.plan.now) (length runner.old.regs.items) }
     requires lines { runner.old.lines.items ≡ [] }
     requires there { All (λ l. l < (P.parts job.now.plan.now).lanes) plan.now.outputs }
     requires output { length output.old ≡ job.now.frames * length plan.now.outputs }
-    ensures ran { Ran runner.old.tasks.tasks (block_of P.parts job.now) (lengths_of layout.now) shapes.now
-        (opening_over plan.now.tables (lengths_of layout.now) shapes.now states.old job.now.frames cells.old lists.old)
+    ensures ran { Ran runner.old.tasks.tasks (block_of P.parts job.now) layout.now shapes.now
+        (opening_over plan.now.tables layout.now shapes.now states.old job.now.frames cells.old lists.old)
         cells.new states.new lists.new runner.new.lines.items plan.now.outputs output.new }
     ensures who { All (λ (line : Line). line.worker ≡ 0) runner.new.lines.items }
-    ensures lists { AreLists (lengths_of layout.now) shapes.now states.new begun.new cells.new }
-    ensures lanes { AreHeld (lengths_of layout.now) shapes.now states.new }
+    ensures lists { AreLists layout.now shapes.now states.new begun.new cells.new }
+    ensures lanes { AreHeld layout.now shapes.now states.new }
     ensures runner { IsSameRunner runner.old runner.new }
 {
     let mut solo = Solo::begin(cells, layout, shapes, states, begun, job.frames);

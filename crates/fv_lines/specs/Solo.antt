@@ -4,7 +4,6 @@ use base.Fml.{GName}
 use Rattle.fv_base.specs.headline.Lists.{table}
 use Rattle.fv_loopcode.specs.headline.Lanes.{Lane, lane_of}
 use Rattle.fv_pool.specs.Layout.{ArePlaces, part}
-use Rattle.fv_pool.specs.Lengths.{lengths_of}
 use Rattle.fv_lines.specs.Shape.{copied_history}
 use Rattle.fv_lines.specs.Hold.{from_start}
 use Rattle.fv_lines.specs.Flat.{HasOrigin}
@@ -40,7 +39,7 @@ first_at shapes origins i = slice_index origins i - history_at shapes i
 
 -- the lengths of the parts, the shapes, the cells, and for how many samples the lanes were begun
 abbrev pub lengths_in : Solo → List ℕ
-lengths_in s = lengths_of s.layout.now
+lengths_in s = s.layout.now
 
 abbrev pub shapes_in : Solo → List LaneShape
 shapes_in s = s.shapes.now

@@ -22,7 +22,6 @@ impl<'a, 'l, 's, 'b, 'c> Solo<'a, 'l, 's, 'b, 'c> {
     ghost use Rattle.fv_loopcode.specs.Words.{argument};
     ghost use Rattle.fv_loopcode.specs.headline.Lanes.{lane_of, appended, sample_at};
     ghost use Rattle.fv_loopcode.specs.Lanes.{all_appended, HasSample, HasJust};
-    ghost use Rattle.fv_pool.specs.Lengths.{lengths_of};
     ghost use Rattle.fv_lines.specs.Solo.{lanes_of, lane_at, lengths_in, shapes_in, cells_in, frames_in, written_in, opening_lanes, AreLists, AreHeld, AreFramed, AreFull};
     ghost use Rattle.fv_lines.specs.Solo.{HoldNext, IsSolo, rest_of, rest_in};
 
@@ -35,13 +34,13 @@ impl<'a, 'l, 's, 'b, 'c> Solo<'a, 'l, 's, 'b, 'c> {
         begun: &'c mut [BegunLane],
         frames: u32,
     ) -> Solo<'a, 'l, 's, 'b, 'c>
-        requires lists { AreLists (lengths_of layout.now) shapes.now states.old begun.old cells.old }
-        requires lanes { AreHeld (lengths_of layout.now) shapes.now states.old }
-        requires frames { AreFramed (lengths_of layout.now) shapes.now frames }
+        requires lists { AreLists layout.now shapes.now states.old begun.old cells.old }
+        requires lanes { AreHeld layout.now shapes.now states.old }
+        requires frames { AreFramed layout.now shapes.now frames }
         ensures valid { IsSolo result }
         ensures kept { rest_of result
-            ≡ rest_in cells.entry.ghost_name states.entry.ghost_name begun.entry.ghost_name (lengths_of layout.now) shapes.now frames }
-        ensures lanes { lanes_of result ≡ opening_lanes (lengths_of layout.now) shapes.now states.old frames cells.old }
+            ≡ rest_in cells.entry.ghost_name states.entry.ghost_name begun.entry.ghost_name layout.now shapes.now frames }
+        ensures lanes { lanes_of result ≡ opening_lanes layout.now shapes.now states.old frames cells.old }
     {
         let places = layout.places();
         for lane in 0..layout.len() {

@@ -1,7 +1,6 @@
 // All lanes, for one worker, over several blocks.
 
 ghost use Rattle.std.specs.Prelude.{◌<◌, ◌≤◌, IsTrue};
-ghost use Rattle.fv_pool.specs.Lengths.{lengths_of};
 ghost use Rattle.fv_lines.specs.Solo.{IsHeld, AreLists, AreHeld, AreFramed, AreFull, IsSolo, lanes_of};
 
 use fv_lines::{BegunLane, LaneShape, LaneState, Solo};
@@ -19,7 +18,7 @@ fn are_lists(
     begun: &[BegunLane],
     cells: &[i32],
 ) -> bool
-    ensures { IsTrue result → AreLists (lengths_of layout.now) shapes.now states.now begun.now cells.now }
+    ensures { IsTrue result → AreLists layout.now shapes.now states.now begun.now cells.now }
 {
     let lanes = layout.len();
     shapes.len() as u64 == lanes
@@ -50,9 +49,9 @@ fn may_begin(
     cells: &[i32],
     frames: u32,
 ) -> bool
-    ensures lists { IsTrue result → AreLists (lengths_of layout.now) shapes.now states.now begun.now cells.now }
-    ensures held { IsTrue result → AreHeld (lengths_of layout.now) shapes.now states.now }
-    ensures framed { IsTrue result → AreFramed (lengths_of layout.now) shapes.now frames }
+    ensures lists { IsTrue result → AreLists layout.now shapes.now states.now begun.now cells.now }
+    ensures held { IsTrue result → AreHeld layout.now shapes.now states.now }
+    ensures framed { IsTrue result → AreFramed layout.now shapes.now frames }
 {
     if !are_lists(layout, shapes, states, begun, cells) {
         return false;

@@ -4,7 +4,6 @@ ghost use Rattle.std.specs.Prelude.{◌≡◌, ◌<◌, ◌++◌, [], ◌∷◌}
 ghost use Rattle.fv_lines.specs.Lanes.{sample_at};
 ghost use Rattle.fv_lines.specs.LanesBeside.{HasSample};
 ghost use Rattle.fv_pool.specs.Layout.{HaveRoom};
-ghost use Rattle.fv_pool.specs.Lengths.{lengths_of};
 ghost use Rattle.fv_pool.specs.Region.{cells_of};
 ghost use Rattle.fv_lines.specs.Seen.{lane_seen};
 ghost use Rattle.fv_lines.specs.Writer.{list_of, written_by, frames_of, lane_written};
@@ -15,7 +14,7 @@ use std::thread::{Threads, join};
 
 /// Appends a sample to a lane of the first part, and reads it in what was seen, before the region is cut anew.
 pub fn seen_before_the_next_cut(region: &mut Region, layout: &Layout, shape: LaneShape) -> i32
-    requires { HaveRoom (lengths_of layout.now) (cells_of region.old) }
+    requires { HaveRoom layout.now (cells_of region.old) }
 {
     let mut sample = 0;
     let mut cutter = region.cut(layout);

@@ -1,7 +1,6 @@
 pub mod Row
 pub mod Link
 pub mod Layout
-pub mod Lengths
 pub mod Uncut
 pub mod Parts
 pub mod Region

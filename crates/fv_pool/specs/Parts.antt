@@ -1,13 +1,12 @@
 -- What a cutter and its parts show.
 use Rattle.std.specs.Prelude.{ℕ, ◌≡◌, ◌+◌, List, sum, take, drop, ℤ}
 use Rattle.fv_pool.specs.Layout.{part}
-use Rattle.fv_pool.specs.Lengths.{lengths_of}
 use Rattle.fv_pool.specs.declared.part.Part.{Part}
 use Rattle.fv_pool.specs.declared.part.Cutter.{Cutter}
 
 -- the lengths of a cutter's parts
 abbrev pub parts_of : Cutter → List ℕ
-parts_of c = lengths_of c.layout.now
+parts_of c = c.layout.now
 
 -- how many parts it has given
 abbrev pub given_by : Cutter → ℕ

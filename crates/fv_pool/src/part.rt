@@ -2,7 +2,6 @@
 
 ghost use Rattle.std.specs.Prelude.{◌≡◌, ◌≤◌, ◌<◌, ◌↔◌, length, take, drop, sum, IfSome, IfNone, IsSome, IsTrue};
 ghost use Rattle.fv_pool.specs.Layout.{HaveRoom};
-ghost use Rattle.fv_pool.specs.Lengths.{lengths_of};
 
 use crate::cells::Cells;
 use crate::layout::Layout;
@@ -30,7 +29,7 @@ pub struct Cutter<'a> {
     rest: Uncut<'a>,
     layout: &'a Layout,
     given: u64,
-    ghost fits: { HaveRoom (drop given (lengths_of layout.now)) rest.cells.now },
+    ghost fits: { HaveRoom (drop given layout.now) rest.cells.now },
 }
 
 impl<'a> Part<'a> {
@@ -103,9 +102,9 @@ impl<'a> Cutter<'a> {
 
     // Over the whole of the cells.
     pub(crate) fn over(cells: &'a mut [i32], layout: &'a Layout) -> Cutter<'a>
-        requires { HaveRoom (lengths_of layout.now) cells.old }
+        requires { HaveRoom layout.now cells.old }
         ensures loan { result.rest.cells.ghost_name ≡ cells.entry.ghost_name }
-        ensures cutter { IsCutter (lengths_of layout.now) 0 cells.old result }
+        ensures cutter { IsCutter layout.now 0 cells.old result }
     {
         Cutter {
             rest: Uncut::of(cells),

@@ -15,7 +15,6 @@ pub struct Region {
 impl Region {
     ghost use Rattle.std.specs.Prelude.{◌≡◌, ◌↔◌, IfOk, IsTrue, length, replicate, pos};
     ghost use Rattle.fv_pool.specs.Layout.{HaveRoom};
-    ghost use Rattle.fv_pool.specs.Lengths.{lengths_of};
     ghost use Rattle.fv_pool.specs.Region.{cells_of, LendsCells, LendsParts};
     ghost use Rattle.fv_pool.specs.Parts.{IsCutter};
 
@@ -44,7 +43,7 @@ impl Region {
 
     /// The parts of a layout find room in the region.
     pub fn has_room(&self, layout: &Layout) -> bool
-        ensures { IsTrue result ↔ HaveRoom (lengths_of layout.now) (cells_of self.now) }
+        ensures { IsTrue result ↔ HaveRoom layout.now (cells_of self.now) }
     {
         layout.total() <= self.len()
     }
@@ -59,9 +58,9 @@ impl Region {
 
     /// The cells, to be cut in parts. Where the loan ends, the region holds what the parts then hold.
     pub fn cut<'a>(&'a mut self, layout: &'a Layout) -> Cutter<'a>
-        requires { HaveRoom (lengths_of layout.now) (cells_of self.old) }
+        requires { HaveRoom layout.now (cells_of self.old) }
         ensures* writes_back { sem 𝓛 (LendsParts self.entry result) }
-        ensures value { IsCutter (lengths_of layout.now) 0 (cells_of self.old) result }
+        ensures value { IsCutter layout.now 0 (cells_of self.old) result }
     {
         Cutter::over(self.cells(), layout)
     }

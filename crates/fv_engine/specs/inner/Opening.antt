@@ -3,7 +3,6 @@ use Rattle.std.specs.Prelude.{◌≡◌, ℕ, [], List, length, Vec, ℤ}
 use Rattle.std.specs.declared.alloc.Global.{Global}
 use Rattle.fv_outside.specs.headline.Tasks.{Tasks}
 use Rattle.fv_outside.specs.declared.gate.Line.{Line}
-use Rattle.fv_pool.specs.Lengths.{lengths_of}
 use Rattle.fv_pool.specs.Region.{cells_of}
 use Rattle.fv_loopcode.specs.headline.State.{State}
 use Rattle.fv_lines.specs.Solo.{opening_lanes, AreFramed}
@@ -28,13 +27,13 @@ opening_over tables lengths shapes states frames cells lists = record {
 
 -- those of an engine's lanes
 abbrev pub opening_of : (tables : List (List ℤ)) → Lanes → (frames : ℕ) → State
-opening_of tables l frames = opening_over tables (lengths_of l.layout) l.shapes.items l.states.items frames (cells_of l.region) l.lists.items
+opening_of tables l frames = opening_over tables l.layout l.shapes.items l.states.items frames (cells_of l.region) l.lists.items
 
 -- The tasks are the block's, and none is told yet; there are a register and a row for each step, and the block's codes go on from what the
 -- places hold.
 pub record MayRun (b : Block) (tables : List (List ℤ)) (l : Lanes) (r : TaskRunner) : Type 0 where
-  pub framed : AreFramed (lengths_of l.layout) l.shapes.items b.frames
-  pub count : length (lengths_of l.layout) ≡ b.plan.lanes
+  pub framed : AreFramed l.layout l.shapes.items b.frames
+  pub count : length l.layout ≡ b.plan.lanes
   pub lists : length l.lists.items ≡ b.plan.cells
   pub job : IsJob b r.tasks.tasks
   pub real : IsReal b (opening_of tables l b.frames)
@@ -45,7 +44,7 @@ pub record MayRun (b : Block) (tables : List (List ℤ)) (l : Lanes) (r : TaskRu
 -- the tasks of the block ran from the old lanes on, and left the new ones, these lines and these samples of the outputs
 abbrev pub RanOver : Tasks → Block → (tables : List (List ℤ)) → (old new : Lanes) → List Line → (outputs : List ℕ) → (output : List ℤ) → Type 0
 RanOver g b tables old new lines outputs output =
-    Ran g b (lengths_of old.layout) old.shapes.items (opening_of tables old b.frames) (cells_of new.region) new.states.items new.lists.items lines
+    Ran g b old.layout old.shapes.items (opening_of tables old b.frames) (cells_of new.region) new.states.items new.lists.items lines
     outputs output
 
 -- the lanes have the parts and shapes that they had, and there are as many lists

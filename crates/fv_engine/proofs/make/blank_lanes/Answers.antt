@@ -1,7 +1,6 @@
 use Rattle.std.proofs.Common.{◌≡◌, ℕ, ◌<◌, ℤ, pos, List, length, map, sum, replicate, take, refl, sym, ap, ◌∙◌, arith}
 use Rattle.std.specs.Prelude.{slice_index}
 use Rattle.std.proofs.lemmas.List.{length-map, length-replicate}
-use Rattle.fv_pool.specs.Lengths.{lengths_of}
 use Rattle.fv_pool.specs.Layout.{part}
 use Rattle.fv_pool.specs.Region.{cells_of}
 use Rattle.fv_lines.specs.Hold.{from_start}
@@ -23,7 +22,7 @@ module _ (c : In_ok-begun) where
   states = c.in_ok-states.states.items
 
   abbrev lengths : List ℕ
-  lengths = lengths_of c.in_ok-layout.layout
+  lengths = c.in_ok-layout.layout
 
   abbrev cells : List ℤ
   cells = cells_of c.in_ok-region.region

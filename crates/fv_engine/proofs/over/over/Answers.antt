@@ -1,7 +1,6 @@
 use Rattle.std.proofs.Common.{rules, ◌≡◌, ◌∙◌, ◌<◌, ℕ, List, length, refl, ap, sym, subst, arith}
 use Rattle.fv_loopcode.specs.headline.Lanes.{Lane}
 use Rattle.fv_loopcode.specs.headline.State.{State}
-use Rattle.fv_pool.specs.Lengths.{lengths_of}
 use Rattle.fv_lines.specs.Solo.{SoloRest, lanes_of, lengths_in}
 use Rattle.fv_lines.specs.declared.solo.Solo.{Solo}
 use Rattle.fv_split_plan.specs.Rows.{lists_of}
@@ -19,7 +18,7 @@ use Rattle.fv_engine.proofs.over.over.Goals as goal
 -- the places, as they open
 module _ (g : Over) (c : After-begin-solo g) where
   abbrev first : State
-  first = opening_over c.args.plan.now.tables (lengths_of c.args.layout.now) c.args.shapes.now c.args.states.now c.args.job.now.frames c.args.cells.now
+  first = opening_over c.args.plan.now.tables c.args.layout.now c.args.shapes.now c.args.states.now c.args.job.now.frames c.args.cells.now
       c.args.lists.now
 
   opens : state_of c.args.plan.now (lanes_of c.begin-solo.result) c.args.lists.now ≡ first
@@ -29,7 +28,7 @@ module _ (g : Over) (c : After-begin-solo g) where
 pub alone-requires-clause-lanes : goal.alone-requires-clause-lanes
 alone-requires-clause-lanes g c =
     ap length c.begin-solo.ensures.lanes
-    ∙ opening_long (lengths_of c.args.layout.now) c.args.shapes.now c.args.states.now c.args.job.now.frames c.args.cells.now ∙ c.requires.count
+    ∙ opening_long c.args.layout.now c.args.shapes.now c.args.states.now c.args.job.now.frames c.args.cells.now ∙ c.requires.count
 
 pub alone-requires-clause-real : goal.alone-requires-clause-real
 alone-requires-clause-real g c =
@@ -45,7 +44,7 @@ module _ (g : Over) (c : After-alone g) where
   solo = c.alone.new.lanes
 
   abbrev opened : State
-  opened = opening_over c.args.plan.now.tables (lengths_of c.args.layout.now) c.args.shapes.now c.args.states.now c.args.job.now.frames c.args.cells.now
+  opened = opening_over c.args.plan.now.tables c.args.layout.now c.args.shapes.now c.args.states.now c.args.job.now.frames c.args.cells.now
       c.args.lists.now
 
   ends : state_of c.args.plan.now (lanes_of c.begin-solo.result) c.args.lists.now ≡ opened
@@ -70,14 +69,14 @@ returns-clause-ran g c =
     let d = goal.at.returns-clause-ran g c in
     let s : Solo = c.alone.new.lanes in
     let kept = c.alone.ensures.kept ∙ c.begin-solo.ensures.kept in
-    let as_lengths : lengths_in s ≡ lengths_of c.args.layout.now = ap (λ (r : SoloRest). r.lengths) kept in
+    let as_lengths : lengths_in s ≡ c.args.layout.now = ap (λ (r : SoloRest). r.lengths) kept in
     let states = sym (ap (λ (r : SoloRest). r.states) kept) in
     let cells = sym (ap (λ (r : SoloRest). r.cells) kept) in
     record {
       now = state_of c.args.plan.now (lanes_of s) c.alone.new.lists;
       ends = ends g d.After-alone (opens g d.After-begin-solo);
       next = λ i l.
-          let over : LiesOver s (lengths_of c.args.layout.now) c.args.shapes.now c.args.job.now.frames _ c.finish.new.self.1.1.1.0 _ = record {
+          let over : LiesOver s c.args.layout.now c.args.shapes.now c.args.job.now.frames _ c.finish.new.self.1.1.1.0 _ = record {
             lengths_are = as_lengths;
             shapes_are = ap (λ (r : SoloRest). r.shapes) kept;
             frames_are = ap (λ (r : SoloRest). r.frames) kept;

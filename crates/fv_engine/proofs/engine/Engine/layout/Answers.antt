@@ -1,5 +1,4 @@
 use Rattle.std.proofs.Common.{subst}
-use Rattle.fv_pool.specs.Lengths.{lengths_of}
 use Rattle.fv_engine.specs.Stands.{EngineView, HaveLengths}
 use Rattle.fv_engine.proofs.Shown.{have_lengths}
 use Rattle.fv_engine.proofs.engine.Engine.layout.Goals as goal
@@ -7,4 +6,4 @@ use Rattle.fv_engine.proofs.engine.Engine.layout.Goals as goal
 pub returns-clause-lanes : goal.returns-clause-lanes
 returns-clause-lanes c =
     let e = c.self.inside in
-    subst (λ (x : EngineView). HaveLengths x.plan x.block (lengths_of e.lanes.layout)) c.self.view_is (have_lengths e c.self.invariant)
+    subst (λ (x : EngineView). HaveLengths x.plan x.block e.lanes.layout) c.self.view_is (have_lengths e c.self.invariant)

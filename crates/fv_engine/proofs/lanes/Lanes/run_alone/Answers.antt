@@ -2,7 +2,6 @@ use Rattle.std.proofs.Common.{◌≡◌, ℕ, ℤ, List, length, ap, sym, subst,
 use Rattle.std.specs.Global.{Vec}
 use Rattle.std.specs.Vec.{with_items}
 use Rattle.std.proofs.lemmas.List.{with_items_is}
-use Rattle.fv_pool.specs.Lengths.{lengths_of}
 use Rattle.fv_pool.specs.Region.{cells_of}
 use Rattle.fv_loopcode.specs.headline.State.{State}
 use Rattle.fv_lines.specs.Solo.{AreHeld, AreLists}
@@ -20,13 +19,13 @@ use Rattle.fv_engine.proofs.lanes.Lanes.run_alone.Goals as goal
 
 pub over-requires-clause-lanes : goal.over-requires-clause-lanes
 over-requires-clause-lanes g c =
-    let l = c.args.self.now in let lengths = lengths_of l.layout in
+    let l = c.args.self.now in let lengths = l.layout in
     subst (λ (x : List LaneShape). AreHeld lengths x c.deref_mut.result.now) (sym c.deref.ensures.value)
     (subst (λ (x : List LaneState). AreHeld lengths l.shapes.items x) (sym c.deref_mut.ensures.value) l.held)
 
 pub over-requires-clause-real : goal.over-requires-clause-real
 over-requires-clause-real g c =
-    let l = c.args.self.now in let lengths = lengths_of l.layout in let n = c.args.job.now.frames in let tables = c.args.plan.now.tables in
+    let l = c.args.self.now in let lengths = l.layout in let n = c.args.job.now.frames in let tables = c.args.plan.now.tables in
     let b = block_of g.P.Codes.parts c.args.job.now in
     let real : List LaneShape → List LaneState → List ℤ → List (Vec ℤ) → Type 0 = λ ss st cs ls. IsReal b (opening_over tables lengths ss st n cs ls) in
     subst (λ (x : List LaneShape). real x c.deref_mut.result.now c.cells.result.now c.deref_mut-3.result.now) (sym c.deref.ensures.value)
@@ -40,7 +39,7 @@ module _ (g : Over) (c : After-over g) where
   old = c.args.self.now
 
   abbrev lengths : List ℕ
-  lengths = lengths_of old.layout
+  lengths = old.layout
 
   abbrev cells : List ℤ
   cells = (with_items old.region.cells c.over.new.cells).items
@@ -82,7 +81,7 @@ invariant_of-self g c =
 
 pub returns-clause-ran : goal.returns-clause-ran
 returns-clause-ran g c =
-    let o = (goal.at.returns-clause-ran g c).After-over in let l = c.args.self.now in let lengths = lengths_of l.layout in
+    let o = (goal.at.returns-clause-ran g c).After-over in let l = c.args.self.now in let lengths = l.layout in
     let n = c.args.job.now.frames in let b : Block = block_of g.P.Codes.parts c.args.job.now in let new = c.over.new in let p = c.args.plan.now in
     let ran : List LaneShape → State → List ℤ → List LaneState → List (Vec ℤ) → Type 0 =
     λ shapes first cells states lists.

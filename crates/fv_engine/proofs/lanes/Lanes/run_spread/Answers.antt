@@ -3,7 +3,6 @@ use Rattle.std.specs.Prelude.{IfSome}
 use Rattle.std.specs.Global.{Vec}
 use Rattle.std.specs.Vec.{with_items}
 use Rattle.std.proofs.lemmas.List.{with_items_is, length-map}
-use Rattle.fv_pool.specs.Lengths.{lengths_of}
 use Rattle.fv_pool.specs.Region.{cells_of}
 use Rattle.fv_loopcode.specs.headline.Lanes.{Lane}
 use Rattle.fv_lines.specs.Solo.{AreHeld, AreLists, held_at, history_at}
@@ -39,7 +38,7 @@ module _ (g : Over) (c : After-run_spread g) where
   old = c.args.self.now
 
   abbrev lengths : List ℕ
-  lengths = lengths_of old.layout
+  lengths = old.layout
 
   abbrev shapes : List LaneShape
   shapes = old.shapes.items

@@ -3,7 +3,6 @@ use Rattle.std.specs.Prelude.{sum, slice_index}
 use Rattle.std.proofs.lemmas.List.{length-map}
 use Rattle.fv_base.proofs.lemmas.Lists.{table_same}
 use Rattle.fv_pool.specs.Layout.{part}
-use Rattle.fv_pool.specs.Lengths.{lengths_of}
 use Rattle.fv_lines.specs.Hold.{from_start}
 use Rattle.fv_lines.specs.Solo.{history_at, held_at, held_from, first_at, origins_begun, written_begun}
 use Rattle.fv_lines.specs.declared.shape.LaneShape.{LaneShape}
@@ -17,7 +16,7 @@ use Rattle.fv_lines.proofs.solo.Solo.begin.Goals as goal
 pub loop-lane-preserved : goal.loop-lane-preserved
 loop-lane-preserved c =
     let i : ℕ = c.loop-lane.lane in
-    let ls : List ℕ = lengths_of c.args.layout.now in
+    let ls : List ℕ = c.args.layout.now in
     let shapes : List LaneShape = c.args.shapes.now in
     let states : List LaneState = c.args.states.now in
     let b : Before = record { lengths = ls; shapes = shapes; states = states; cells = c.args.cells.now } in
@@ -54,8 +53,8 @@ loop-lane-preserved c =
 
 pub returns-clause-valid : goal.returns-clause-valid
 returns-clause-valid c =
-    let many : length c.loop-lane.begun ≡ length (lengths_of c.args.layout.now) = c.loop-lane.auto.begun ∙ c.requires.lists.2 in
-    let all : length (lengths_of c.args.layout.now) ≤ c.loop-lane.lane = omega (arith, c.loop-lane-test.false, c.len-lane-end.ensures) in
+    let many : length c.loop-lane.begun ≡ length c.args.layout.now = c.loop-lane.auto.begun ∙ c.requires.lists.2 in
+    let all : length c.args.layout.now ≤ c.loop-lane.lane = omega (arith, c.loop-lane-test.false, c.len-lane-end.ensures) in
     record {
       shapes = c.requires.lists.0;
       states = c.requires.lists.1;
@@ -79,7 +78,7 @@ returns-clause-valid c =
 
 pub returns-clause-lanes : goal.returns-clause-lanes
 returns-clause-lanes c =
-    let ls : List ℕ = lengths_of c.args.layout.now in
+    let ls : List ℕ = c.args.layout.now in
     let shapes : List LaneShape = c.args.shapes.now in
     let origins : List ℕ = origins_begun c.loop-lane.begun in
     let written : List ℕ = written_begun c.loop-lane.begun in

@@ -1,7 +1,6 @@
 use Rattle.std.proofs.Common.{◌≡◌, ◌+◌, ◌-◌, ◌<◌, ℕ, ℤ, List, length, drop, sym, ap, ◌∙◌, arith, subst, refl}
 use Rattle.std.specs.Prelude.{slice_index}
 use Rattle.fv_pool.specs.Layout.{part}
-use Rattle.fv_pool.specs.Lengths.{lengths_of}
 use Rattle.fv_lines.specs.Flat.{HasOrigin}
 use Rattle.fv_lines.specs.Shape.{Turned}
 use Rattle.fv_lines.specs.Solo.{history_at, len_at, start_at, lengths_in, shapes_in, frames_in, origins_in, written_in, IsSolo}
@@ -41,7 +40,7 @@ advance-requires c =
     let shapes : List LaneShape = c.args.self.shapes.now in
     let x : LaneShape = c.index-shapes-i.result in
     let k : i < length shapes = c.loop-i-test.true in
-    let l : i < length (lengths_of c.args.self.layout.now) = omega (arith, k, c.requires.valid.shapes) in
+    let l : i < length c.args.self.layout.now = omega (arith, k, c.requires.valid.shapes) in
     let lane = c.requires.valid.lanes i l in
     let history : history_at shapes i ≡ x.history = history_is shapes i x k ∙ sym (ap (λ (y : LaneShape). y.history) c.index-shapes-i.is) in
     let len : len_at shapes i ≡ x.len = len_is shapes i x k ∙ sym (ap (λ (y : LaneShape). y.len) c.index-shapes-i.is) in
@@ -79,8 +78,8 @@ returns-clause-states c = λ i l.
 
 pub returns-clause-held : goal.returns-clause-held
 returns-clause-held c = λ i there.
-    let l : i < length (lengths_of c.args.self.layout.now) = there_of c.args.self i there in
-    let ls : List ℕ = lengths_of c.args.self.layout.now in
+    let l : i < length c.args.self.layout.now = there_of c.args.self i there in
+    let ls : List ℕ = c.args.self.layout.now in
     let cells : List ℤ = c.args.self.cells.now in
     let lane = c.requires.valid.lanes i l in
     let k : i < length c.args.self.shapes.now = omega (arith, l, c.requires.valid.shapes) in
