@@ -1,5 +1,5 @@
 -- What a block's parcels hold: what their edges and the block's start name (this project's profile).
-use Rattle.std.specs.Prelude.{◌≡◌, ℕ, ◌+◌, ◌-◌, ◌*◌, ◌/◌, ◌<◌, ◌≤◌, ◌==◌, if◌then◌else◌, List, [], ◌∷◌, length, map, slice_index, slice_index_or}
+use Rattle.std.specs.Prelude.{◌≡◌, ℕ, ◌+◌, ◌-◌, ◌*◌, ◌/◌, ◌<◌, ◌≤◌, nat_lt, if◌then◌else◌, List, [], ◌∷◌, length, map, slice_index, slice_index_or}
 use Rattle.std.specs.Vec.{vec_capacity}
 use Rattle.std.specs.Global.{Vec, Box}
 use Rattle.fv_outside.specs.headline.Tasks.{Tasks}
@@ -102,11 +102,12 @@ pub record AreSeenOf (k : Start) (lanes : List ℕ) (v : ℕ) (ss : List SeenLan
 -- the lanes that go over an edge, in their order
 abbrev pub lanes_seen : SeenLanes → List SeenLane
 lanes_seen (many.One s) = s ∷ []
+lanes_seen (many.Two s t) = s ∷ t ∷ []
 lanes_seen (many.Many ss) = ss.items
 
--- for how many of a loop's lanes a list needs room: one lane goes without it
+-- for how many of a loop's lanes a list needs room: one lane and two go without it
 abbrev pub list_room : ℕ → ℕ
-list_room n = if n == 1 then 0 else n
+list_room n = if nat_lt n 3 then 0 else n
 
 -- empty lists, with room for so many
 pub record AreRoomy (lists : List (Vec SeenLane)) (room : ℕ) : Type 0 where

@@ -30,13 +30,16 @@ pub struct LoopBody<'a, 'b> {
     ghost real: { ∥ IsRealStart start ∥₁ },
 }
 
-// These lanes, as they are now. Several fill the list.
+// These lanes, as they are now. More than two fill the list.
 fn see<'a>(own: &[LaneWriter<'a>], mut list: Vec<Seen<'a>>) -> SeenLanes<'a>
     requires { (list.items ≡ []) × (list_room (length own.now) ≤ vec_capacity list) }
     ensures { map lane_seen (lanes_seen result) ≡ map lane_written own.now }
 {
     if own.len() == 1 {
         return SeenLanes::One(own[0].seen());
+    }
+    if own.len() == 2 {
+        return SeenLanes::Two(own[0].seen(), own[1].seen());
     }
     for writer in own {
         list.push_reserved(writer.seen());

@@ -7,7 +7,7 @@ use fv_engine_lanes::LoopLanes;
 use fv_lines::Seen;
 
 /// What a loop's task hands to the loop's next task: its lane writers and cells, its registers, the rows that its code works in, and,
-/// still empty, a list for each seen parcel that is to come, which has room only where several lanes go into it.
+/// still empty, a list for each seen parcel that is to come, which has room only where more than two lanes go into it.
 #[derive(Drop)]
 pub struct Writers<'a, 'b> {
     pub lanes: LoopLanes<'a, 'b>,
@@ -16,10 +16,11 @@ pub struct Writers<'a, 'b> {
     pub lists: Vec<Vec<Seen<'a>>>,
 }
 
-/// The lanes of a loop, as they were seen. Most loops have one, which needs no list.
+/// The lanes of a loop, as they were seen. Most loops have one, or two where they feed a signal back, and these need no list.
 #[derive(Drop)]
 pub enum SeenLanes<'a> {
     One(Seen<'a>),
+    Two(Seen<'a>, Seen<'a>),
     Many(Vec<Seen<'a>>),
 }
 
@@ -32,6 +33,10 @@ impl<'a> SeenLanes<'a> {
     {
         match self {
             SeenLanes::One(lane) => list.push_reserved(*lane),
+            SeenLanes::Two(first, second) => {
+                list.push_reserved(*first);
+                list.push_reserved(*second);
+            }
             SeenLanes::Many(lanes) => {
                 // There is room for them, so this takes no memory.
                 let _ = list.extend_from_slice(lanes.as_slice());

@@ -34,7 +34,7 @@ fn seen_lists<'a>(alloc: Global, count: u64, room: u64) -> Result<Vec<Vec<Seen<'
 fn room_of_list(lanes: u64) -> u64
     ensures { result ≡ list_room lanes }
 {
-    if lanes == 1 { 0 } else { lanes }
+    if lanes < 3 { 0 } else { lanes }
 }
 
 // More than a type counts is want of memory.
