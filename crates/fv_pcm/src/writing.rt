@@ -25,8 +25,23 @@ pub fn data_length(channels: u32, bits: u32, frames: u32) -> Option<u32>
     Some(size as u32)
 }
 
-/// Puts the samples' bytes, each clamped to the width, into the front of `bytes`.
+/// Puts the samples' bytes, each clamped to the width, into the front of `bytes`. The width is chosen once.
 pub fn encode(coding: Coding, bits: u32, samples: &[i32], bytes: &mut [u8])
+    requires bits { is_sample_width bits ≡ true }
+    requires room { length samples.now * (bits / 8) ≤ length bytes.old }
+    ensures { take (length samples.now * (bits / 8)) bytes.new ≡ flat_map (sample_bytes coding bits) samples.now }
+{
+    match bits {
+        8 => encode_all(coding, 8, samples, bytes),
+        16 => encode_all(coding, 16, samples, bytes),
+        24 => encode_all(coding, 24, samples, bytes),
+        _ => encode_all(coding, 32, samples, bytes),
+    }
+}
+
+// The same, in the body of whoever knows the width.
+#[inline(always)]
+fn encode_all(coding: Coding, bits: u32, samples: &[i32], bytes: &mut [u8])
     requires bits { is_sample_width bits ≡ true }
     requires room { length samples.now * (bits / 8) ≤ length bytes.old }
     ensures { take (length samples.now * (bits / 8)) bytes.new ≡ flat_map (sample_bytes coding bits) samples.now }
@@ -38,6 +53,7 @@ pub fn encode(coding: Coding, bits: u32, samples: &[i32], bytes: &mut [u8])
 }
 
 // Number i of the samples.
+#[inline(always)]
 fn number_at(samples: &[i32], i: usize) -> i32
     requires { i < length samples.now }
     ensures { result ≡ slice_index_or samples.now i (pos 0) }
@@ -46,6 +62,7 @@ fn number_at(samples: &[i32], i: usize) -> i32
 }
 
 // Puts a sample's bytes into the front of `to`.
+#[inline(always)]
 fn put_sample(coding: Coding, bits: u32, x: i32, to: &mut [u8])
     requires bits { is_sample_width bits ≡ true }
     requires room { bits / 8 ≤ length to.old }
@@ -60,6 +77,7 @@ fn put_sample(coding: Coding, bits: u32, x: i32, to: &mut [u8])
 }
 
 // Puts the lowest bytes of a number into the front of `to`.
+#[inline(always)]
 fn put_lowest_first(size: usize, n: u32, to: &mut [u8])
     requires few { size ≤ 4 }
     requires room { size ≤ length to.old }
@@ -70,6 +88,7 @@ fn put_lowest_first(size: usize, n: u32, to: &mut [u8])
     to[..size].copy_from_slice(&all[..size]);
 }
 
+#[inline(always)]
 fn put_highest_first(size: usize, n: u32, to: &mut [u8])
     requires few { size ≤ 4 }
     requires room { size ≤ length to.old }
@@ -81,6 +100,7 @@ fn put_highest_first(size: usize, n: u32, to: &mut [u8])
 }
 
 // The number that is stored for a sample.
+#[inline(always)]
 fn stored(coding: Coding, bits: u32, x: i32) -> i32
     requires { is_sample_width bits ≡ true }
     ensures { result ≡ stored_of coding bits x }

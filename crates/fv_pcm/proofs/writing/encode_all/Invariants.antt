@@ -1,7 +1,7 @@
 use Rattle.std.proofs.Common.{◌≡◌, ◌*◌, ◌/◌, take}
 use Rattle.std.specs.Prelude.{flat_map}
 use Rattle.fv_pcm.specs.headline.Coded.{sample_bytes}
-use Rattle.fv_pcm.proofs.writing.encode.Given as goal
+use Rattle.fv_pcm.proofs.writing.encode_all.Given as goal
 
 -- the samples up to here are encoded
 abbrev pub invariant-loop-i : goal.invariant-loop-i

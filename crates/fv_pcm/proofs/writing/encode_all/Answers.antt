@@ -8,7 +8,7 @@ use Rattle.std.proofs.Math.Nat.{mul-le-mul_right}
 use Rattle.fv_pcm.specs.headline.Coded.{sample_bytes}
 use Rattle.fv_outside.proofs.lemmas.States.{part_front}
 use Rattle.fv_pcm.proofs.lemmas.Samples.{length_sample, sample_more}
-use Rattle.fv_pcm.proofs.writing.encode.Goals as goal
+use Rattle.fv_pcm.proofs.writing.encode_all.Goals as goal
 
 pub loop-i-preserved : goal.loop-i-preserved
 loop-i-preserved c =
