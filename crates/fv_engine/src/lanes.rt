@@ -123,6 +123,7 @@ impl Lanes {
             &mut self.lists,
             &mut runner.lines,
             output,
+            &mut runner.kept,
             gate,
         )
     }

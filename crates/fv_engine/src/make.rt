@@ -133,12 +133,14 @@ pub(crate) fn runner_for(alloc: Global, plan: &Plan, most: u32) -> Result<TaskRu
     let steps = most_steps(plan);
     let rows = blank_rows(alloc, steps)?;
     let regs = Vec::from_elem(alloc, 0, steps as usize)?;
+    let kept = Vec::new(alloc);
     let lines = Vec::with_capacity(alloc, tasks.len() as usize)?;
     Ok(TaskRunner {
         tasks,
         core,
         rows,
         regs,
+        kept,
         lines,
     })
 }

@@ -4,18 +4,20 @@ ghost use Rattle.std.specs.Prelude.{◌≤◌, vec_capacity};
 ghost use Rattle.fv_outside.specs.Tasks.{task_count};
 ghost use Rattle.fv_engine.specs.Cores.{HasCore};
 
+use fv_engine_spread::Scratch;
 use fv_graph::Tasks;
 use fv_graph_core::Core;
 use fv_outside::Line;
 
-/// What runs the tasks: the tasks of the block, the core for one worker, the rows and registers that its codes work in, and the
-/// block's journal.
+/// What runs the tasks: the tasks of the block, the core for one worker, the rows and registers that its codes work in, those that several
+/// workers keep from block to block, and the block's journal.
 #[derive(Drop)]
 pub(crate) struct TaskRunner {
     pub(crate) tasks: Tasks,
     pub(crate) core: Core,
     pub(crate) rows: Vec<i32>,
     pub(crate) regs: Vec<i32>,
+    pub(crate) kept: Vec<Scratch>,
     pub(crate) lines: Vec<Line>,
     ghost core_is: { HasCore tasks core },
     ghost room: { task_count (record tasks.tasks { vectors = tasks.most }) ≤ vec_capacity lines },

@@ -6,7 +6,7 @@ ghost use Rattle.fv_engine_crew.specs.inner.Buffers.{AreEmpty};
 
 use crate::block::SpreadBlock;
 use fv_engine_parcels::{LoopParcel, Writers};
-use fv_engine_spread::take_room;
+use fv_engine_spread::{Scratch, take_room};
 use fv_lines::LaneWriter;
 use std::alloc::{AllocError, Global};
 
@@ -25,13 +25,21 @@ pub(crate) struct Buffers<'a, 'b> {
 pub(crate) fn take_buffers<'a, 'b>(
     alloc: Global,
     block: &SpreadBlock<'b>,
+    kept: &mut Vec<Scratch>,
 ) -> Result<Buffers<'a, 'b>, AllocError>
     requires { IsSpread block.now }
     ensures { IfOk result (λ l. AreEmpty block.now l) }
 {
     let loops = block.plan.loops() as usize;
     let lanes = block.shapes.len();
-    let rooms = take_room(alloc, block.plan, block.tasks, block.places, block.counts)?;
+    let rooms = take_room(
+        alloc,
+        block.plan,
+        block.tasks,
+        block.places,
+        block.counts,
+        kept,
+    )?;
     let begun = Vec::with_capacity(alloc, lanes)?;
     let entries = Vec::with_capacity(alloc, loops)?;
     let emptied = Vec::with_capacity(alloc, loops)?;

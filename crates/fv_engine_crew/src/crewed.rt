@@ -12,7 +12,7 @@ ghost use Rattle.fv_engine_crew.specs.inner.Lanes.{AreOpen, AreWhole, AreUntouch
 use crate::block::SpreadBlock;
 use crate::buffers::Buffers;
 use crate::enter::enter;
-use fv_engine_spread::collect;
+use fv_engine_spread::{Scratch, collect};
 use fv_lines::LaneWriter;
 use fv_outside::{Gate, Line};
 use fv_steal_block::run_crew;
@@ -29,6 +29,7 @@ pub(crate) fn run_begun<'a, 'b, R: Threads + Wait + Sync, G: Gate + Sync>(
     buffers: Buffers<'a, 'b>,
     lists: &mut Vec<Vec<i32>>,
     lines: &mut Vec<Line>,
+    kept: &mut Vec<Scratch>,
     gate: &G,
 ) -> Result<Vec<LaneWriter<'a>>, Vec<LaneWriter<'a>>>
     requires spread { IsSpread block.now }
@@ -64,11 +65,27 @@ pub(crate) fn run_begun<'a, 'b, R: Threads + Wait + Sync, G: Gate + Sync>(
         gate,
     ) {
         Ok(exits) => {
-            let all = collect(body.start(), exits, emptied, back, lists.as_mut_slice());
+            let all = collect(
+                alloc,
+                body.start(),
+                exits,
+                emptied,
+                back,
+                lists.as_mut_slice(),
+                kept,
+            );
             Ok(all)
         }
         Err(entries) => {
-            let all = collect(body.start(), entries, emptied, back, lists.as_mut_slice());
+            let all = collect(
+                alloc,
+                body.start(),
+                entries,
+                emptied,
+                back,
+                lists.as_mut_slice(),
+                kept,
+            );
             Err(all)
         }
     }

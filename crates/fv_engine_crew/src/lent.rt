@@ -9,6 +9,7 @@ use crate::block::SpreadBlock;
 use crate::buffers::{Buffers, take_buffers};
 use crate::crewed::run_begun;
 use crate::whole::end_whole;
+use fv_engine_spread::Scratch;
 use fv_lines::LaneState;
 use fv_lines_cut::{begin_lanes, stop_lanes};
 use fv_outside::{Gate, Line};
@@ -18,7 +19,8 @@ use std::marker::Sync;
 use std::sync::Wait;
 use std::thread::Threads;
 
-/// What a crew is handed beside the cells of the region, the lists of the plan's cells among it, and whether it ran the block.
+/// What a crew is handed beside the cells of the region, the lists of the plan's cells and what is kept among it, and whether it ran the
+/// block.
 #[derive(Drop)]
 pub(crate) struct Pack<'p, 'b, 's, 'l, 'o> {
     pub(crate) alloc: Global,
@@ -27,6 +29,7 @@ pub(crate) struct Pack<'p, 'b, 's, 'l, 'o> {
     pub(crate) lines: &'l mut Vec<Line>,
     pub(crate) output: &'o mut [i32],
     pub(crate) lists: &'o mut Vec<Vec<i32>>,
+    pub(crate) kept: &'o mut Vec<Scratch>,
     pub(crate) ran: bool,
 }
 
@@ -58,6 +61,7 @@ fn use_buffers<'a, 'b, R: Threads + Wait + Sync, G: Gate + Sync>(
         buffers,
         &mut *pack.lists,
         &mut *pack.lines,
+        &mut *pack.kept,
         gate,
     ) {
         Ok(all) => {
@@ -87,7 +91,7 @@ fn used<'a, R: Threads + Wait + Sync, G: Gate + Sync>(
     ensures { (result.1.name ≡ cells.entry.ghost_name) × Leaves pack.old pack.new cells.old result.1.last }
 {
     let uncut = Uncut::of(cells);
-    match take_buffers(pack.alloc, pack.block) {
+    match take_buffers(pack.alloc, pack.block, &mut *pack.kept) {
         Ok(buffers) => use_buffers(rt, gate, pack, uncut, buffers),
         Err(_) => uncut.end(),
     }

@@ -11,6 +11,7 @@ ghost use Rattle.fv_engine_crew.specs.Spread.{block_in, tasks_of, IsSpread, MayR
 
 use crate::block::SpreadBlock;
 use crate::lent::{Pack, lent};
+use fv_engine_spread::Scratch;
 use fv_lines::LaneState;
 use fv_outside::{Gate, Line};
 use std::alloc::Global;
@@ -20,7 +21,7 @@ use std::thread::Threads;
 
 /// Runs the tasks of a block by so many workers side by side, over the lanes in these cells and the lists of the plan's own, and copies the
 /// lanes of the outputs. Where memory is refused no task runs, each lane keeps the history that it held, each list stays, and the answer is
-/// false.
+/// false. What the codes work in is taken from `kept`, and is put there again for the next block.
 pub fn run_spread<R: Threads + Wait + Sync, G: Gate + Sync>(
     rt: &R,
     alloc: Global,
@@ -30,6 +31,7 @@ pub fn run_spread<R: Threads + Wait + Sync, G: Gate + Sync>(
     lists: &mut Vec<Vec<i32>>,
     lines: &mut Vec<Line>,
     output: &mut [i32],
+    kept: &mut Vec<Scratch>,
     gate: &G,
 ) -> bool
     requires spread { IsSpread block.now }
@@ -55,6 +57,7 @@ pub fn run_spread<R: Threads + Wait + Sync, G: Gate + Sync>(
         lines,
         output,
         lists,
+        kept,
         ran: false,
     };
     lent(rt, gate, &mut pack, cells);

@@ -6,9 +6,11 @@ ghost use Rattle.fv_engine_parcels.specs.Contents.{tasks_in};
 ghost use Rattle.fv_engine_spread.specs.Entries.{AreLoopsWriters, AreLoopsLanes};
 ghost use Rattle.fv_engine_spread.specs.Collected.{AreChainParcels, AreAllWriters, AreAllCells};
 
+use crate::scratch::{Scratch, keep};
 use crate::swapping::swap_cells;
 use fv_engine_parcels::{Content, LoopParcel, Start, Writers};
 use fv_lines::LaneWriter;
+use std::alloc::Global;
 
 // What each loop handed on, loop by loop, in a list with room for them.
 fn loops_writers<'a, 'b>(
@@ -30,11 +32,13 @@ fn loops_writers<'a, 'b>(
     writers
 }
 
-// Each lane's writer from the list of its loop, lane by lane, in a list with room for them.
+// Each lane's writer from the list of its loop, lane by lane, in a list with room for them. The registers and rows are kept.
 fn all_writers<'a, 'b>(
+    alloc: Global,
     start: &Start<'a, 'b>,
     mut writers: Vec<Box<Writers<'a, 'b>>>,
     mut all: Vec<LaneWriter<'a>>,
+    kept: &mut Vec<Scratch>,
 ) -> Vec<LaneWriter<'a>>
     requires loops { (tasks_in start.now).loops ≡ start.now.plan.now.loops }
     requires writers { (v : ℕ) × AreLoopsLanes start.now v writers.items }
@@ -51,18 +55,22 @@ fn all_writers<'a, 'b>(
         };
         all.push_reserved(writer);
     }
+    keep(alloc, writers, kept);
     all.reverse();
     all
 }
 
 /// The writers of all lanes, lane by lane, out of the parcels of the loops' own edges at a vector: the exits where a block ran, the
-/// entries where it is given up; and the lists of all cells. The lists that are handed in have room, so that no memory is taken.
+/// entries where it is given up; and the lists of all cells. The lists that are handed in have room, so that no memory is taken. Registers
+/// and rows are kept for the next block.
 pub fn collect<'a, 'b>(
+    alloc: Global,
     start: &Start<'a, 'b>,
     parcels: Vec<LoopParcel<'a, 'b>>,
     writers: Vec<Box<Writers<'a, 'b>>>,
     all: Vec<LaneWriter<'a>>,
     cells: &mut [Vec<i32>],
+    kept: &mut Vec<Scratch>,
 ) -> Vec<LaneWriter<'a>>
     requires loops { (tasks_in start.now).loops ≡ start.now.plan.now.loops }
     requires placed { ArePlaced start.now.plan.now start.now.places.now.places.items start.now.places.now.counts.items }
@@ -77,5 +85,5 @@ pub fn collect<'a, 'b>(
 {
     let mut writers = loops_writers(start, parcels, writers);
     swap_cells(start.plan, start.places, cells, writers.as_mut_slice());
-    all_writers(start, writers, all)
+    all_writers(alloc, start, writers, all, kept)
 }

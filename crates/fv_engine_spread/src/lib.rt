@@ -7,6 +7,7 @@ mod dealing;
 mod entries;
 mod laws;
 mod room;
+mod scratch;
 mod swapping;
 
 pub use collecting::collect;
@@ -14,4 +15,5 @@ pub use dealing::deal;
 pub use entries::entries_of;
 pub use laws::dealt_rooms_enter;
 pub use room::take_room;
+pub use scratch::Scratch;
 pub use swapping::swap_cells;

@@ -8,12 +8,12 @@ ghost use Rattle.fv_engine_codes.specs.Codes.{AreOfPlan, AreLaneCounts};
 ghost use Rattle.fv_engine_parcels.specs.Contents.{list_room, AreRoomy};
 ghost use Rattle.fv_engine_spread.specs.Rooms.{IsRoom, HasCells, AreRooms};
 
+use crate::scratch::{Scratch, scratch_for, times};
 use fv_engine_codes::LaneCount;
 use fv_engine_lanes::{CellPlaces, LoopCells, LoopLanes};
 use fv_engine_parcels::Writers;
 use fv_graph::Tasks;
 use fv_lines::Seen;
-use fv_loopcode_machine::blank_rows;
 use fv_split_plan::Plan;
 use std::alloc::{AllocError, Global};
 
@@ -35,16 +35,6 @@ fn room_of_list(lanes: u64) -> u64
     ensures { result ≡ list_room lanes }
 {
     if lanes < 3 { 0 } else { lanes }
-}
-
-// More than a type counts is want of memory.
-fn times(a: u64, b: u64) -> Result<u64, AllocError>
-    ensures { IfOk result (λ n. n ≡ a * b) }
-{
-    match a.checked_mul(b) {
-        Some(n) => Ok(n),
-        None => Err(AllocError),
-    }
 }
 
 // How many loops read a loop.
@@ -87,39 +77,39 @@ fn loop_cells<'b>(
     })
 }
 
-// The lists of one loop: for its own lanes, for the lanes that it sees, a register and a row for each step, and lists for the lanes
-// that it hands to those that read it; and its cells.
+// The lists of one loop: for its own lanes, for the lanes that it sees, the registers and rows, and lists for the lanes that it hands to
+// those that read it; and its cells.
 fn loop_room<'a, 'b>(
     alloc: Global,
     cells: LoopCells<'b>,
     count: LaneCount,
-    steps: u64,
+    scratch: Scratch,
     lists: u64,
 ) -> Result<Writers<'a, 'b>, AllocError>
-    ensures room { IfOk result (λ w. IsRoom count.own count.seen steps lists w) }
+    requires { length scratch.rows.items ≡ length scratch.regs.items * 32 }
+    ensures room { IfOk result (λ w. IsRoom count.own count.seen (length scratch.regs.items) lists w) }
     ensures cells { IfOk result (λ w. w.lanes.cells ≡ cells.entry) }
 {
     let own = Vec::with_capacity(alloc, count.own as usize)?;
     let seen = Vec::with_capacity(alloc, count.seen as usize)?;
-    let regs = Vec::from_elem(alloc, 0, steps as usize)?;
-    let rows = blank_rows(alloc, steps)?;
     let lists = seen_lists(alloc, lists, room_of_list(count.own))?;
     Ok(Writers {
         lanes: LoopLanes { own, seen, cells },
-        regs,
-        rows,
+        regs: scratch.regs,
+        rows: scratch.rows,
         lists,
     })
 }
 
 /// The lists of each loop of a plan for a block of these tasks: what goes over the loop's edges is kept in them, so that no task takes
-/// memory. More than a type counts is want of memory too.
+/// memory. Registers and rows are those that a block before kept, where they fit. More than a type counts is want of memory too.
 pub fn take_room<'a, 'b>(
     alloc: Global,
     plan: &'b Plan,
     tasks: &Tasks,
     places: &'b CellPlaces,
     counts: &[LaneCount],
+    kept: &mut Vec<Scratch>,
 ) -> Result<Vec<Box<Writers<'a, 'b>>>, AllocError>
     requires of_plan { AreOfPlan plan.now tasks.now.tasks }
     requires counts { AreLaneCounts plan.now tasks.now.tasks counts.now }
@@ -130,7 +120,8 @@ pub fn take_room<'a, 'b>(
     for j in 0..plan.loops() {
         let lists = times(u64::from(tasks.vectors()), count_readers(tasks, j))?;
         let cells = loop_cells(alloc, plan, places, j)?;
-        let room = loop_room(alloc, cells, counts[j as usize], plan.code(j).len(), lists)?;
+        let scratch = scratch_for(alloc, kept, plan.code(j).len())?;
+        let room = loop_room(alloc, cells, counts[j as usize], scratch, lists)?;
         let room = Box::new(alloc, room)?;
         rooms.push_reserved(room);
     }

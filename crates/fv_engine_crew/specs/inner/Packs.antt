@@ -34,6 +34,7 @@ pub record Leaves (old new : Pack) (before after : List ℤ) : Type 0 where
   pub lines_are : new.lines.ghost_name ≡ old.lines.ghost_name
   pub output_is : new.output.ghost_name ≡ old.output.ghost_name
   pub lists_are : new.lists.ghost_name ≡ old.lists.ghost_name
+  pub kept_is : new.kept.ghost_name ≡ old.kept.ghost_name
   pub ran : new.ran ≡ true → Ran (tasks_of (block_with old)) (block_in (block_with old)) (lengths_by (shapes_with old)) (shapes_with old)
       (opening_of (block_with old) old.states.now before old.lists.now.items) after new.states.now new.lists.now.items new.lines.now.items (block_with old).plan.now.outputs new.output.now
   pub who : new.ran ≡ true → All (λ (line : Line). line.worker < (block_with old).workers) new.lines.now.items
