@@ -10,6 +10,17 @@ use fv_graph::Tasks;
 use fv_split_plan::Plan;
 use std::alloc::{AllocError, Global};
 
+// How many bytes a list has that the C library takes from the system by itself, and gives back at once.
+const OWN_PAGES: usize = 16 * 1024 * 1024;
+
+// A block of several workers takes its lists from the heap and gives them back when it ends. glibc hands the free end of its heap to the
+// system where that is longer than 128 KiB, so each block would ask for its pages again, and that took a quarter of what the calling thread
+// does alone. Once a list that had pages of its own is let go, it hands over only what is longer than two such lists. Where this list is
+// refused, or another C library is at work, all goes on as before.
+fn keep_pages(alloc: Global) {
+    let _ = Vec::<u8>::with_capacity(alloc, OWN_PAGES);
+}
+
 /// What so many workers need of a plan. One worker, and a plan of one loop, of which no two tasks can run at once, need nothing.
 pub(crate) fn crew_for(
     alloc: Global,
@@ -25,6 +36,7 @@ pub(crate) fn crew_for(
     if workers == 1 || plan.loops() == 1 {
         return Ok(None);
     }
+    keep_pages(alloc);
     let codes = local_codes(alloc, plan, tasks)?;
     let counts = lane_counts(alloc, plan, tasks)?;
     let places = place_cells(alloc, plan)?;
