@@ -39,6 +39,9 @@ def wave(channels, bits, size, data=b"", before=b""):
 XS = ",".join(f"x{i}" for i in range(8000))
 BOTH_SIDES = "f((" + "".join(f"a{i},(" for i in range(126)) + "%d" + "".join(f"),b{i}" for i in range(126)) + "))=1;"
 NAMES = [a + b for a in string.ascii_uppercase for b in string.ascii_letters][:1300]
+# A call of `g` opens lists anew. What stands behind `z` makes the lists' numbers have lowest bits in common.
+BEHIND_LISTS = ("process = f(1) with{f(n)=g(1),f(n+1);g(n)=(" + ",".join(NAMES[:1000]) + ")%s;z=_';}"
+    + "".join("with{" + "=1;".join(NAMES[:1000]) + "=1;" + "".join(f"b{j}=1;" for j in range(i % 5)) + "}" for i in range(64)) + ";")
 ENDLESS = "f(n) = f(n+1); process = f(2000000);"
 # what asks for much, the program's text, and, where there are some, its input, its script and its options
 TEXTS = [
@@ -84,6 +87,8 @@ TEXTS = [
     ("a name that many lists define, behind as many that do not", "process = f(1) with{f(n)=f(n+q);}" + "with{a=1;}" * 52_000 + "with{q=1;}" * 52_000 + ";"),
     ("1,300 names that 120 lists define, behind names that a pattern binds anew", "process = f(par(i,8000,_)) with{f(d)=g(d),f(d);g((" + XS + "))="
      + ",".join(NAMES) + ";}" + ("with{" + "=1;".join(NAMES) + "=1;}") * 120 + ";"),
+    ("1,000 names that 64 lists define, behind 5,000 lists that do not, on and on", BEHIND_LISTS % ("with{}with{a=1;}" * 2_500)),
+    ("1,000 names that 64 lists define, behind 50,000 lists that do not, on and on", BEHIND_LISTS % ("with{}with{a=1;}" * 25_000)),
     ("a name of many rules in one list, behind many lists", "process = f(1) with{f(n)=f(n+q(0));}" + "with{a=1;}" * 52_000 + "with{" + "".join(f"q({i})=1;" for i in range(45_000)) + "};"),
     ("rules of long patterns", filled("f((", "x%d", "))=1; process=f(1);", ",")),
     ("a definition's parameters", filled("f(", "x%d", ")=1; process=f(1);", ",")),

@@ -7,12 +7,9 @@ use Rattle.fv_parse.specs.headline.Trees.{text_of}
 use Rattle.fv_parse.specs.Trees.{Parsed, program_of, size_of, first_named}
 use Rattle.fv_diagram.specs.headline.Diagram.{Diagram, has_table_primitive}
 use Rattle.fv_diagram.specs.Arena.{Arena, count_of, empty_arena, tree_of}
-use Rattle.std.specs.Prelude.{slice_get}
-use Rattle.std.proofs.lemmas.Option.{none-some}
 use Rattle.fv_eval_patterns.specs.Remembered.{nothing}
 use Rattle.fv_eval_patterns.specs.Trials.{Recalls}
 use Rattle.fv_eval_patterns.proofs.lemmas.LongPatterns.{recalls_nothing}
-use Rattle.fv_eval_choosing.specs.declared.shortcuts.Shortcut.{Shortcut}
 use Rattle.fv_eval_choosing.specs.Shortcuts.{AreShortcuts}
 use Rattle.fv_rules.specs.declared.refusal.EvalRefusal.{EvalRefusal}
 use Rattle.fv_rules.specs.declared.refusal.EvalRefusal.TheVariants.{NoMemory}
@@ -133,13 +130,10 @@ goes_on p m n f r o mean goes h = (step p.tokens h.0, goes h.0 h.1, mean p.token
 
 -- ---- a whole run
 
-knows_no_way : (p : Parsed) (scopes : List Enclosing) (xs : List Shortcut) → xs ≡ [] → AreShortcuts p scopes xs
-knows_no_way p scopes xs none i x e = absurd (none-some x (ap (λ (ys : List Shortcut). slice_get ys i) (sym none) ∙ e))
-
 -- a new machine to which its first environment and its first continuation were added
 pub starts : (p : Parsed) (m : code_machine.Machine) (s : Environments) (fs : List code_continuation.Continuation) (root name env : ℕ)
     → (m.drawing.diagrams ≡ empty_arena) × (m.scopes ≡ record { scopes = []; taken = [] }) × (m.continuations ≡ []) × (state_of m ≡ start)
-    × (m.trials ≡ nothing) × (m.shortcuts ≡ [])
+    × (m.trials ≡ nothing) × ((q : Parsed) (scopes : List Enclosing) → AreShortcuts q scopes m.shortcuts)
     → (env ≡ length m.scopes.scopes + 1) × (s ≡ with_scope m.scopes (scope.Definitions root 0))
     → fs ≡ m.continuations ++ continuation.Drawn drawn.Finish ∷ [] → root ≡ p.root
     → root < size_of p → (text_of p.tokens name ≡ codes "process") × (first_named p.tokens name ≡ name)
@@ -165,7 +159,7 @@ starts p m s fs root name env new opened pushed rooted inside named =
         named,
         shown,
         (
-          (subst (Recalls p m.drawing.diagrams) (sym new.4) (recalls_nothing p m.drawing.diagrams), knows_no_way p s.scopes m.shortcuts new.5),
+          (subst (Recalls p m.drawing.diagrams) (sym new.4) (recalls_nothing p m.drawing.diagrams), new.5 p s.scopes),
           ([], continuation.Drawn drawn.Finish, continuations, tt, refl),
         ),
       ),

@@ -1,7 +1,7 @@
+pub mod Arounds
 pub mod Keyed
 pub mod Lookups
 pub mod Named
-pub mod Past
 pub mod Refused
 pub mod RuleNodes
 pub mod RulesChosen

@@ -1,5 +1,5 @@
 -- The definitions of a list, by name.
-use Rattle.std.proofs.Common.{◌≡◌, ◌⊎◌, ℕ, zero, suc, ◌+◌, ◌<◌, ◌≤◌, arith, Bool, true, false, cond, List, [], ◌∷◌, ◌++◌, length, map, take}
+use Rattle.std.proofs.Common.{◌≡◌, ◌⊎◌, ℕ, ◌+◌, ◌<◌, ◌≤◌, arith, Bool, true, false, cond, List, [], ◌∷◌, ◌++◌, length, map, take}
 use Rattle.std.proofs.Common.{get_or, Option, Some, None, inl, inr, refl, sym, ap, ap₂, subst, ◌∙◌, All}
 use Rattle.std.specs.Prelude.{filter, nat_eq}
 use Rattle.std.specs.List.Sorted.{IsPermutation}
@@ -22,8 +22,8 @@ use Rattle.fv_parse.specs.TreeNode.TheVariants as nodes
 use Rattle.fv_eval_choosing.specs.declared.by_name.Defined.{Defined}
 use Rattle.fv_rules.specs.headline.Values.{is_of}
 use Rattle.fv_eval_choosing.proofs.RuleNodes.{IsNoFunction, AreOfName}
-use Rattle.fv_eval_choosing.specs.ByName.{is_called, defined_name, called, defined_in, IsAmong, AreDefined, AreIndexed, AreHeld, IsAgain, Holds}
-use Rattle.fv_eval_choosing.specs.inner.Lookup.{HoldsNone}
+use Rattle.fv_eval_choosing.specs.ByName.{is_called, defined_name, called, defined_in, AreDefined, AreIndexed}
+use Rattle.fv_eval_choosing.specs.Around.{HasNone}
 
 -- ---- a tree is of a name just where its canonical number is that
 
@@ -166,113 +166,21 @@ called_in {p} {lists = lists} {list = list} {i = i} {name = name} {ds = ds} {fou
     at : AreDefined p i ds
     at = subst (AreDefined p i) (sym here) (h.each i ds l)
 
--- ---- the lists that define a name
+-- ---- a name of which a list has nothing
 
-pub held_begins : AreHeld [] []
-held_begins = record { none = λ i n d l h. absurd (omega (arith, l)) }
-
-among_left : (xs ys : List Defined) (i : ℕ) → IsAmong xs i → IsAmong (xs ++ ys) i
-among_left [] ys i h = absurd h
-among_left (x ∷ xs) ys i (inl e) = inl e
-among_left (x ∷ xs) ys i (inr h) = inr (among_left xs ys i h)
-
-among_right : (xs ys : List Defined) (i : ℕ) → IsAmong ys i → IsAmong (xs ++ ys) i
-among_right [] ys i h = h
-among_right (x ∷ xs) ys i h = inr (among_right xs ys i h)
-
-pub held_more : (lists more : List (List Defined)) (hs ks ds : List Defined) (id : TreeId) → AreHeld lists hs → id ≡ length lists
-    → more ≡ lists ++ ds ∷ [] → Holds hs ks id ds → AreHeld more ks
-held_more lists more hs ks ds id h place pushed held = record { none = λ i n d l q. go i n d l q (cases_lt i (length lists)) }
-  where
-    go : (i n : ℕ) (d : List Defined) → i < length more → (IsAmong (filter (is_called n) ks) i → ⊥) → (i < length lists) ⊎ (length lists ≤ i)
-        → filter (is_called n) (get_or more i d) ≡ []
-    go i n d l q (inl lt) =
-        ap (λ ls. filter (is_called n) (get_or ls i d)) pushed
-        ∙ ap (filter (is_called n)) (get_or_append_left lists (ds ∷ []) d i lt)
-        ∙ h.none i n d lt (λ a. q (held.keeps i n a))
-    go i n d l q (inr ge) =
-        let long : length more ≡ length lists + 1 = ap length pushed ∙ length_push lists ds in
-        let same : id ≡ i = omega (arith, place, ge, l, long) in
-        ap (λ ls. filter (is_called n) (get_or ls i d)) pushed
-        ∙ ap (λ k. filter (is_called n) (get_or (lists ++ ds ∷ []) k d)) (sym same)
-        ∙ ap (filter (is_called n)) (get_or_push lists ds d id (sym place))
-        ∙ held.none n (λ a. q (subst (IsAmong (filter (is_called n) ks)) same a))
-
-pub held_sorted : (lists : List (List Defined)) (hs ks : List Defined) → ((n : ℕ) → filter (is_called n) ks ≡ filter (is_called n) hs) → AreHeld lists hs
-    → AreHeld lists ks
-held_sorted lists hs ks same h =
-    record { none = λ i n d l q. h.none i n d l (λ a. q (subst (λ xs. IsAmong xs i) (sym (same n)) a)) }
-
-pub holds_none : (p q : Parsed) (lists : List (List Defined)) (hs found : List Defined) (name : ℕ) → p ≡ q → AreIndexed p lists → AreHeld lists hs
-    → found ≡ filter (is_called name) hs → HoldsNone q name (IsAmong found)
-holds_none p q lists hs found name view h held is =
-    subst (λ (r : Parsed). HoldsNone r name (IsAmong found)) view (λ list n inside other e.
-    let l : list < length lists = omega (arith, inside, h.whole) in
-    let none = held.none list name [] l (λ a. other (subst (λ xs. IsAmong xs list) (sym is) a)) in
-    sym ((h.each list [] l).found n)
-    ∙ ap (λ m. map (λ (d : Defined). tree_in p d.node) (filter (is_called m) (get_or lists list []))) e
+pub listed_none : (p q : Parsed) (lists : List (List Defined)) (list i name : ℕ) (ds : List Defined) → p ≡ q → AreIndexed p lists → i ≡ list
+    → ds ≡ get_or lists i ds → filter (is_called name) ds ≡ [] → HasNone q list name
+listed_none p q lists list i name ds view h same here none =
+    subst (λ (r : Parsed). HasNone r list name) view (λ n inside e.
+    let l : i < length lists = omega (arith, inside, h.whole, same) in
+    let at : AreDefined p list ds = subst (λ k. AreDefined p k ds) same (subst (AreDefined p i) (sym here) (h.each i ds l)) in
+    sym (at.found n)
+    ∙ ap (λ m. map (λ (d : Defined). tree_in p d.node) (filter (is_called m) ds)) e
     ∙ ap (map (λ (d : Defined). tree_in p d.node)) none)
 
--- what holds a name, one by one
-pub holds_begin : (hs : List Defined) (id : TreeId) (ds : List Defined) → Holds hs hs id (take 0 ds)
-holds_begin hs id ds = record { keeps = λ i n h. h; none = λ n h. refl }
-
 -- one definition more, which is of no name that has none
-no_more : (n : ℕ) (ds : List Defined) (i : ℕ) (d : Defined) → i < length ds → filter (is_called n) (take i ds) ≡ [] → nat_eq (get_or ds i d).name n ≡ false
+pub no_more : (n : ℕ) (ds : List Defined) (i : ℕ) (d : Defined) → i < length ds → filter (is_called n) (take i ds) ≡ [] → nat_eq (get_or ds i d).name n ≡ false
     → filter (is_called n) (take (i + 1) ds) ≡ []
 no_more n ds i d l none other =
     ap (filter (is_called n)) (take_more ds i d l) ∙ filter-append (is_called n) (take i ds) (get_or ds i d ∷ [])
     ∙ ap₂ (λ xs ys. xs ++ ys) none (ap (λ b. cond b (get_or ds i d ∷ []) []) other)
-
--- a name of which one was found is not one of which there is none
-found_one : (n : ℕ) (ds : List Defined) (i : ℕ) (d : Defined) → i < length ds → filter (is_called n) (take (i + 1) ds) ≡ []
-    → nat_eq (get_or ds i d).name n ≡ false
-found_one n ds i d l none = other (nat_eq (get_or ds i d).name n) (λ e.
-    let all = sym (ap (filter (is_called n)) (take_more ds i d l) ∙ filter-append (is_called n) (take i ds) (get_or ds i d ∷ [])
-    ∙ ap (λ b. filter (is_called n) (take i ds) ++ cond b (get_or ds i d ∷ []) []) e) ∙ none in
-    let long = ap length all in absurd (omega (arith, long, length_push (filter (is_called n) (take i ds)) (get_or ds i d))))
-  where
-    other : (b : Bool) → (b ≡ true → ⊥) → b ≡ false
-    other true h = absurd (h refl)
-    other false h = refl
-
-pub holds_again : (hs ks : List Defined) (id : TreeId) (ds : List Defined) (i : ℕ) → i < length ds → IsAgain ds i → Holds hs ks id (take i ds)
-    → Holds hs ks id (take (i + 1) ds)
-holds_again hs ks id ds zero l again h = absurd again
-holds_again hs ks id ds (suc j) l again h = record { keeps = h.keeps; none = λ n q. none n (h.none n q) }
-  where
-    d : Defined
-    d = record { name = 0; node = id }
-
-    none : (n : ℕ) → filter (is_called n) (take (suc j) ds) ≡ [] → filter (is_called n) (take (suc j + 1) ds) ≡ []
-    none n e =
-        let shorter : filter (is_called n) (take (j + 1) ds) ≡ [] =
-        (let same : suc j ≡ j + 1 = omega arith in subst (λ k. filter (is_called n) (take k ds) ≡ []) same e) in
-        no_more n ds (suc j) d l e (ap (λ m. nat_eq m n) (sym (again d)) ∙ found_one n ds j d (omega (arith, l)) shorter)
-
-pub holds_more : (hs ks es : List Defined) (id : TreeId) (ds : List Defined) (i : ℕ) (x : Defined) → i < length ds → x ≡ get_or ds i x
-    → es ≡ ks ++ record { name = x.name; node = id } ∷ [] → Holds hs ks id (take i ds) → Holds hs es id (take (i + 1) ds)
-holds_more hs ks es id ds i x l here pushed h = record {
-  keeps = λ k n a.
-      subst (λ xs. IsAmong xs k) (sym (split n)) (among_left (filter (is_called n) ks) (filter (is_called n) (d ∷ [])) k (h.keeps k n a));
-  none = λ n q. no_more n ds i x l (h.none n (λ a. q (left n a))) (other (nat_eq (get_or ds i x).name n) (λ e. q (right n e)));
-}
-  where
-    d : Defined
-    d = record { name = x.name; node = id }
-
-    split : (n : ℕ) → filter (is_called n) es ≡ filter (is_called n) ks ++ filter (is_called n) (d ∷ [])
-    split n = ap (filter (is_called n)) pushed ∙ filter-append (is_called n) ks (d ∷ [])
-
-    left : (n : ℕ) → IsAmong (filter (is_called n) ks) id → IsAmong (filter (is_called n) es) id
-    left n a = subst (λ xs. IsAmong xs id) (sym (split n)) (among_left (filter (is_called n) ks) (filter (is_called n) (d ∷ [])) id a)
-
-    right : (n : ℕ) → nat_eq (get_or ds i x).name n ≡ true → IsAmong (filter (is_called n) es) id
-    right n e =
-        let one : IsAmong (filter (is_called n) (d ∷ [])) id =
-        subst (λ b. IsAmong (cond b (d ∷ []) []) id) (sym (ap (λ (y : Defined). nat_eq y.name n) here ∙ e)) (inl refl) in
-        subst (λ xs. IsAmong xs id) (sym (split n)) (among_right (filter (is_called n) ks) (filter (is_called n) (d ∷ [])) id one)
-
-    other : (b : Bool) → (b ≡ true → ⊥) → b ≡ false
-    other true h = absurd (h refl)
-    other false h = refl

@@ -1,5 +1,5 @@
 -- The definitions of a list of a tree, by the canonical numbers of their names (this project's profile).
-use Rattle.std.specs.Prelude.{◌≡◌, ◌⊎◌, ℕ, zero, suc, ◌<◌, Bool, nat_eq, List, [], ◌∷◌, length, map, filter}
+use Rattle.std.specs.Prelude.{◌≡◌, ℕ, ◌<◌, Bool, nat_eq, List, length, map, filter}
 use Rattle.std.specs.Prelude.{filter_map, All, Option, Some, None, slice_index_or}
 use Rattle.fv_parse.specs.Token.{Lexed}
 use Rattle.fv_parse_grammar.specs.headline.Tree.{Tree, Constant, Function, items}
@@ -38,23 +38,3 @@ pub record AreDefined (p : Parsed) (list : ℕ) (ds : List Defined) : Type 0 whe
 pub record AreIndexed (p : Parsed) (lists : List (List Defined)) : Type 0 where
   pub whole : length lists ≡ size_of p
   pub each : (i : ℕ) (d : List Defined) → i < length lists → AreDefined p i (slice_index_or lists i d)
-
--- a node is among these
-abbrev pub IsAmong : List Defined → ℕ → Type 0
-IsAmong [] i = ⊥
-IsAmong (d ∷ ds) i = (i ≡ d.node) ⊎ IsAmong ds i
-
--- Each list that defines a name is among the holders of that name.
-pub record AreHeld (lists : List (List Defined)) (holders : List Defined) : Type 0 where
-  pub none : (i n : ℕ) (d : List Defined) → i < length lists → (IsAmong (filter (is_called n) holders) i → ⊥)
-      → filter (is_called n) (slice_index_or lists i d) ≡ []
-
--- a definition has the name of the one before it
-abbrev pub IsAgain : List Defined → ℕ → Type 0
-IsAgain ds zero = ⊥
-IsAgain ds (suc j) = (d : Defined) → (slice_index_or ds j d).name ≡ (slice_index_or ds (suc j) d).name
-
--- Names were kept of a list: those that were there, and each that it defines.
-pub record Holds (old new : List Defined) (id : TreeId) (ds : List Defined) : Type 0 where
-  pub keeps : (i n : ℕ) → IsAmong (filter (is_called n) old) i → IsAmong (filter (is_called n) new) i
-  pub none : (n : ℕ) → (IsAmong (filter (is_called n) new) id → ⊥) → filter (is_called n) ds ≡ []

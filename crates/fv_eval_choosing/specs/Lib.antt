@@ -1,7 +1,9 @@
+pub mod Around
 pub mod ByName
 pub mod Chosen
 pub mod inner
 pub mod Indexes
 pub mod Leaving
+pub mod Outward
 pub mod Positions
 pub mod Shortcuts

@@ -1,11 +1,11 @@
 // The definitions of one list, sorted by name.
 
-ghost use Rattle.std.specs.Prelude.{ℕ, ◌≡◌, ◌+◌, ◌<◌, ◌++◌, List, [], IfOk, IsTrue, filter, length, take};
+ghost use Rattle.std.specs.Prelude.{ℕ, ◌≡◌, ◌<◌, ◌++◌, List, [], IfOk, filter};
 ghost use Rattle.std.specs.List.{cons_option};
 ghost use Rattle.std.specs.List.Sorted.{IsPermutation};
 ghost use Rattle.fv_parse.specs.Trees.{size_of, tree_in};
 ghost use Rattle.fv_eval_choosing.specs.declared.by_name.Defined.{Defined};
-ghost use Rattle.fv_eval_choosing.specs.ByName.{is_called, called, defined_name, AreDefined, IsAgain, Holds};
+ghost use Rattle.fv_eval_choosing.specs.ByName.{is_called, called, defined_name, AreDefined};
 
 use fv_parse::{Tree, TreeId, TreeNode, same_names};
 use std::alloc::{AllocError, Global};
@@ -120,42 +120,4 @@ pub(crate) fn by_name(alloc: Global, tree: &Tree, list: TreeId) -> Result<ByName
     let definitions = definitions_of(alloc, tree, list)?;
     let sorted = ByName::sort(definitions)?;
     Ok(sorted)
-}
-
-/// Keeps of each name that a list defines that the list has it.
-pub(crate) fn hold(holders: &mut Vec<Defined>, list: &ByName, id: TreeId) -> Result<(), AllocError>
-    ensures { IfOk result (λ _. Holds holders.old.items holders.new.items id list.now) }
-{
-    let all = list.all();
-    for i in 0..all.len() {
-        hold_next(holders, all, i, id)?;
-    }
-    Ok(())
-}
-
-// The same of one definition more. The name of the one before it is kept already.
-fn hold_next(
-    holders: &mut Vec<Defined>,
-    all: &[Defined],
-    i: usize,
-    id: TreeId,
-) -> Result<(), AllocError>
-    requires { i < length all.now }
-    ensures { IfOk result (λ _. (hs : List Defined) → Holds hs holders.old.items id (take i all.now)
-        → Holds hs holders.new.items id (take (i + 1) all.now)) }
-{
-    if is_again(all, i) {
-        return Ok(());
-    }
-    let name = all[i].name;
-    holders.push(Defined { name, node: id })?;
-    Ok(())
-}
-
-// Whether a definition has the name of the one before it.
-fn is_again(all: &[Defined], i: usize) -> bool
-    requires { i < length all.now }
-    ensures { IsTrue result → IsAgain all.now i }
-{
-    i > 0 && all[i - 1].name == all[i].name
 }

@@ -1,6 +1,7 @@
 //! What a name stands for, and which rule matches: definitions by name, the choice of a rule.
 #![tactic(auto)]
 
+mod around;
 mod by_name;
 mod choosing;
 mod index;
@@ -8,7 +9,9 @@ mod lookup;
 mod paths;
 mod positions;
 mod shortcuts;
+mod slots;
 mod wants;
 
 pub use lookup::Definitions;
-pub use shortcuts::{Shortcut, Shortcuts};
+pub use shortcuts::Shortcuts;
+pub use slots::Shortcut;

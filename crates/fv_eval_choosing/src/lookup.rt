@@ -1,20 +1,23 @@
 // What a name stands for.
 
-ghost use Rattle.std.specs.Prelude.{ℕ, ◌≡◌, ◌⊎◌, ◌<◌, ◌≤◌, IfOk, IfSome, IsTrue, OnOk, Some, All, map, filter};
+ghost use Rattle.std.specs.Prelude.{ℕ, ◌≡◌, ◌⊎◌, ◌<◌, ◌≤◌, IfOk, IfSome, IsTrue, OnOk, Some, [], All, map, filter};
 ghost use Rattle.fv_parse_grammar.specs.headline.Tree.{items};
 ghost use Rattle.fv_parse.specs.headline.Trees.{text_of};
-ghost use Rattle.fv_parse.specs.Trees.{size_of, tree_in, first_named};
+ghost use Rattle.fv_parse.specs.Trees.{Parsed, size_of, tree_in, first_named};
 ghost use Rattle.fv_rules.specs.headline.Values.{Name, Env, Meaning as PureMeaning, lookup, is_of, definition_of, or_else};
 ghost use Rattle.fv_eval_choosing.specs.declared.by_name.Defined.{Defined as AnItem};
 ghost use Rattle.fv_eval_scopes.specs.Environments.{scope_in};
-ghost use Rattle.fv_eval_choosing.specs.ByName.{IsAmong};
+ghost use Rattle.fv_eval_choosing.specs.Around.{AreAround, HasNone};
+ghost use Rattle.fv_eval_choosing.specs.ByName.{is_called};
 ghost use Rattle.fv_eval_scopes.specs.declared.value.Ruled.TheVariants.{Definitions as AtDefinitions};
 ghost use Rattle.fv_eval_scopes.specs.Shows.{World, IsInside, IsNamed, ShowsEnv, ShowsMeaning, rules_in};
 ghost use Rattle.fv_eval_choosing.specs.Leaving.{IsIndex};
-ghost use Rattle.fv_eval_choosing.specs.Shortcuts.{AreShortcuts, SkipsTo, outer};
-ghost use Rattle.fv_eval_choosing.specs.inner.Lookup.{SaysOrPasses, HoldsNone, IsMade, is_name, are_names};
+ghost use Rattle.fv_eval_choosing.specs.Shortcuts.{AreShortcuts};
+ghost use Rattle.fv_eval_choosing.specs.Outward.{SkipsTo, outer};
+ghost use Rattle.fv_eval_choosing.specs.inner.Lookup.{SaysOrPasses, IsMade, is_name, are_names};
 
-use crate::by_name::{ByName, Defined, by_name, hold};
+use crate::around::Around;
+use crate::by_name::{ByName, Defined, by_name};
 use crate::index::RuleIndex;
 use crate::shortcuts::Shortcuts;
 use fv_eval_scopes::{Meaning, Ruled, Scope, Scopes, Value, outer_of};
@@ -22,14 +25,23 @@ use fv_parse::{Tree, TreeId, TreeNode, same_names};
 use std::alloc::{AllocError, Global};
 use std::marker::Model;
 
+/// So many steps are taken one by one before what has nothing of a name is passed at once.
+const ON_FOOT: u64 = 4;
+
+/// Where a look-up may go on from an environment: to the one around it, or by a shortcut, which may lead nowhere.
+#[derive(Clone, Copy)]
+struct Step {
+    at: u64,
+    outer: u64,
+    direct: u64,
+}
+
 /// A tree with the definitions of each list in it, sorted by name, and an index of the rules at each place where there are
 /// many.
 #[derive(Drop)]
 pub struct Definitions<'a> {
     tree: &'a Tree<'a>,
     lists: Vec<ByName>,
-    /// Each name with each list that defines it.
-    holders: ByName,
     indexes: Vec<RuleIndex>,
     /// For each node at which rules stand, where among `indexes` to look for them.
     places: Vec<u64>,
@@ -37,14 +49,14 @@ pub struct Definitions<'a> {
 
 impl<'a> Model for Definitions<'a> {
     ghost use Rattle.fv_parse.specs.Trees.{Parsed};
-    ghost use Rattle.fv_eval_choosing.specs.ByName.{AreIndexed, AreHeld};
+    ghost use Rattle.fv_eval_choosing.specs.ByName.{AreIndexed};
     ghost use Rattle.fv_eval_choosing.specs.Indexes.{AreIndexes};
 
     ghost Value = { Parsed };
 
     ghost view = { λ d. d.tree.now };
 
-    ghost invariant = { λ d. AreIndexed d.tree.now d.lists.items × AreIndexes d.tree.now d.indexes.items × AreHeld d.lists.items d.holders };
+    ghost invariant = { λ d. AreIndexed d.tree.now d.lists.items × AreIndexes d.tree.now d.indexes.items };
 }
 
 impl<'a> Definitions<'a> {
@@ -54,18 +66,14 @@ impl<'a> Definitions<'a> {
     {
         let _within: Option<Defined> = None;
         let mut lists = Vec::new(alloc);
-        let mut held = Vec::new(alloc);
         for i in 0..tree.len() {
             let id = TreeId::new(i);
             let list = by_name(alloc, tree, id)?;
-            hold(&mut held, &list, id)?;
             lists.push(list)?;
         }
-        let holders = ByName::sort(held)?;
         let mut definitions = Definitions {
             tree,
             lists,
-            holders,
             indexes: Vec::new(alloc),
             places: Vec::new(alloc),
         };
@@ -183,15 +191,12 @@ impl<'a> Definitions<'a> {
             → w.tree ≡ self.now → w.scopes ≡ scopes.now.scopes → IsNamed w name x → ShowsEnv w env E
             → ShowsMeaning w result (lookup self.now.tokens E x) }
     {
-        // To ask for each list that defines the name costs as much as so many steps, so they are taken before.
-        let holders = self.holders(name).len();
-        let mut left = holders;
         let mut steps = 0;
         let mut mark = env;
         let mut at = env;
         'outward: while let Some(scope) = scopes.scope(at) {
             if let Some(meaning) = self.in_scope(&scope, name, at) {
-                shortcuts.keep(name, mark, at, steps);
+                shortcuts.slots.keep(name, mark, at, steps);
                 return meaning;
             }
             let outer = outer_of(&scope);
@@ -199,61 +204,32 @@ impl<'a> Definitions<'a> {
             if outer >= at {
                 return Meaning::Unknown;
             }
-            let direct = shortcuts.outward(name, at, steps);
-            at = self.next(scopes, name, at, outer, direct, left);
-            left = steps_left(left, holders);
+            let direct = shortcuts.slots.outward(name, at, steps);
+            let way = Step { at, outer, direct };
+            at = self.next(scopes, &mut shortcuts.around, &way, name, steps);
             steps = steps.saturating_add(1);
-            mark = shortcuts.mark(name, mark, at, steps);
+            mark = shortcuts.slots.mark(name, mark, at, steps);
         }
         Meaning::Unknown
     }
 
     // The next environment to look at behind one that has nothing of a name: by a shortcut that leads outward, or else from
-    // the environment around it on.
-    fn next(&self, scopes: &Scopes, name: u64, at: u64, outer: u64, direct: u64, left: usize) -> u64
-        requires { outer < at }
-        ensures skips { SkipsTo self.now scopes.now.scopes name at outer → SkipsTo self.now scopes.now.scopes name at direct
-            → SkipsTo self.now scopes.now.scopes name at result }
-        ensures outward { result < at }
+    // the environment around it on, and after a few steps over all that has nothing of the name.
+    fn next(&self, scopes: &Scopes, around: &mut Around, way: &Step, name: u64, steps: u64) -> u64
+        requires { way.now.outer < way.now.at }
+        ensures kept { AreAround self.now scopes.now.scopes around.old → AreAround self.now scopes.now.scopes around.new }
+        ensures skips { AreAround self.now scopes.now.scopes around.old → SkipsTo self.now scopes.now.scopes name way.now.at way.now.outer
+            → SkipsTo self.now scopes.now.scopes name way.now.at way.now.direct → SkipsTo self.now scopes.now.scopes name way.now.at result }
+        ensures outward { result < way.now.at }
     {
-        if direct < at {
-            direct
+        if way.direct < way.at {
+            way.direct
+        } else if steps < ON_FOOT {
+            way.outer
         } else {
-            self.further(scopes, name, outer, left)
+            around.follow(self, scopes);
+            past(scopes, around, name, way.outer)
         }
-    }
-
-    // The next environment from one outward to look at: this one, while there are steps left.
-    fn further(&self, scopes: &Scopes, name: u64, env: u64, left: usize) -> u64
-        ensures skips { SkipsTo self.now scopes.now.scopes name env result }
-        ensures outward { result ≤ env }
-    {
-        if left > 0 {
-            env
-        } else {
-            self.past(scopes, name, env)
-        }
-    }
-
-    // The first environment from one outward that may have something of a name.
-    fn past(&self, scopes: &Scopes, name: u64, env: u64) -> u64
-        ensures skips { SkipsTo self.now scopes.now.scopes name env result }
-        ensures outward { result ≤ env }
-    {
-        let holders = self.holders(name);
-        let mut at = scopes.lead(env, name);
-        for holder in holders {
-            let other = scopes.lead(env, holder.node.number());
-            at = nearer(at, other);
-        }
-        at
-    }
-
-    // The lists that define a name; no other list has a definition of it.
-    fn holders(&self, name: u64) -> &[Defined]
-        ensures { HoldsNone self.now name (IsAmong result.now) }
-    {
-        self.holders.called(name)
     }
 
     // What the innermost scope of an environment makes of a name.
@@ -296,6 +272,18 @@ impl<'a> Definitions<'a> {
         ensures { result.now ≡ self.now }
     {
         self.tree
+    }
+
+    /// The definitions of a list, sorted by name.
+    pub(crate) fn listed(&self, list: TreeId) -> &[Defined]
+        ensures { (name : ℕ) → filter (is_called name) result.now ≡ [] → HasNone self.now list name }
+    {
+        let i = list.number() as usize;
+        if i < self.lists.len() {
+            self.lists[i].all()
+        } else {
+            &[]
+        }
     }
 
     /// The definitions of a name in a list, in order.
@@ -361,9 +349,16 @@ fn made(tree: &Tree, list: TreeId, first: TreeId, count: u64, env: u64) -> Meani
     }
 }
 
-// How many steps are left after one: all again, where none was left.
-fn steps_left(left: usize, all: usize) -> usize {
-    if left == 0 { all } else { left - 1 }
+// The first environment from one outward that may have something of a name, where it is known which lists are around; else
+// this one.
+fn past(scopes: &Scopes, around: &Around, name: u64, env: u64) -> u64
+    ensures skips { (p : Parsed) → AreAround p scopes.now.scopes around.now → SkipsTo p scopes.now.scopes name env result }
+    ensures outward { result ≤ env }
+{
+    match around.nearest(name, env) {
+        None => env,
+        Some(list) => nearer(scopes.lead(env, name), scopes.lead(env, list)),
+    }
 }
 
 // The nearer one of two environments further outward.

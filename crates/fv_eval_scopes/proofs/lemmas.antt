@@ -2,3 +2,4 @@
 pub mod Grown
 pub mod Outward
 pub mod Added
+pub mod Forks

@@ -1,6 +1,6 @@
 -- Ways outward over scopes that have nothing of a name (this project's profile).
 use Rattle.std.specs.Prelude.{◌≡◌, ℕ, zero, suc, ◌<◌, List, length, slice_get, Some}
-use Rattle.fv_eval_scopes.specs.declared.tries.TheConstants.{LEVELS}
+use Rattle.fv_eval_scopes.specs.declared.ways.TheConstants.{LEVELS}
 use Rattle.fv_eval_scopes.specs.declared.tries.Fork.{Fork}
 use Rattle.fv_eval_scopes.specs.declared.ways.Way.{Way}
 use Rattle.fv_eval_scopes.specs.declared.ways.Ways.{Ways}

@@ -10,5 +10,6 @@ mod ways;
 
 pub use memo::{Known, Numbers};
 pub use scopes::Scopes;
+pub use tries::Tries;
 pub use value::{Argument, Binding, Meaning, Ruled, Scope, Value};
 pub use ways::outer_of;

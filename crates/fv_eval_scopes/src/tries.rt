@@ -1,18 +1,14 @@
 // Binary trees that share what they have in common, in which a number is found by its lowest bits.
 
 ghost use Rattle.std.specs.Prelude.{ℕ, ◌≡◌, ◌⊎◌, ◌<◌, ◌-◌, [], Some, IfOk};
-ghost use Rattle.fv_eval_scopes.specs.declared.tries.TheConstants.{LEVELS};
 ghost use Rattle.fv_eval_scopes.specs.Tries.{child, child_of, found, AreThere, IsGrown, IsWith};
 
 use std::alloc::{AllocError, Global};
 use std::marker::Model;
 
-/// How many bits lead from a root to a value. Numbers that have them in common are not told apart.
-pub(crate) const LEVELS: u64 = 12;
-
 /// Where each bit leads from a node.
 #[derive(Clone, Copy, Debug)]
-pub(crate) struct Fork {
+pub struct Fork {
     zero: u64,
     one: u64,
 }
@@ -20,7 +16,7 @@ pub(crate) struct Fork {
 /// The nodes of all trees. Node 0 is a tree in which every number has the value 0; the others are numbered from 1 on. What
 /// was made is never changed: a tree with one value more has the rest of another one.
 #[derive(Drop)]
-pub(crate) struct Tries {
+pub struct Tries {
     forks: Vec<Fork>,
 }
 
@@ -35,7 +31,7 @@ impl Model for Tries {
 
 impl Tries {
     /// No node but 0.
-    pub(crate) fn new(alloc: Global) -> Tries
+    pub fn new(alloc: Global) -> Tries
         ensures { result ≡ [] }
     {
         Tries {
@@ -56,13 +52,14 @@ impl Tries {
         }
     }
 
-    /// The value of a number in the tree with this root.
-    pub(crate) fn find(&self, root: u64, number: u64) -> u64
-        ensures { result ≡ found self.now LEVELS root number }
+    /// The value of a number in the tree of so many levels with this root. Numbers that have so many lowest bits in common
+    /// are not told apart.
+    pub fn find(&self, root: u64, levels: u64, number: u64) -> u64
+        ensures { result ≡ found self.now levels root number }
     {
         let mut node = root;
         let mut rest = number;
-        let mut left = LEVELS;
+        let mut left = levels;
         'down: while left > 0 {
             node = self.child(node, rest % 2);
             rest /= 2;
@@ -72,7 +69,7 @@ impl Tries {
     }
 
     /// A tree of so many levels in which this number has this value, and each other one what it has in another tree.
-    pub(crate) fn with(
+    pub fn with(
         &mut self,
         root: u64,
         levels: u64,

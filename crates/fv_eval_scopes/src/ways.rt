@@ -5,9 +5,12 @@ ghost use Rattle.fv_eval_scopes.specs.declared.value.Scope.{Scope as AScope};
 ghost use Rattle.fv_eval_scopes.specs.Environments.{outer_number};
 ghost use Rattle.fv_eval_scopes.specs.Ways.{PassesTo, IsWay, AreWays, key_of};
 
-use crate::tries::{LEVELS, Tries};
+use crate::tries::Tries;
 use crate::value::{Ruled, Scope, Value};
 use std::alloc::{AllocError, Global};
+
+/// How many bits of a key a way outward goes by. Keys that have them in common are not told apart.
+const LEVELS: u64 = 12;
 
 /// A way outward over scopes. Each is kept by the name that it binds, or by its list of definitions: the tree with this root
 /// has, for each such number, the nearest environment whose scope is kept by it, or by another one that is not told apart
@@ -62,7 +65,7 @@ impl Ways {
         ensures { (scopes : List AScope) → AreWays scopes self.now → PassesTo scopes (λ m. m ≡ key) env result }
     {
         let way = self.outward(env);
-        let found = self.tries.find(way.root, key);
+        let found = self.tries.find(way.root, LEVELS, key);
         if found == 0 { way.end } else { found }
     }
 

@@ -39,6 +39,12 @@ fn closed_expressions(rt: HostRuntime) -> Result<(), Fail> {
         (b"process = sum(i,10,i * i);", 285),
         (b"process = prod(i,5,i + 1);", 120),
         (b"process = seq(i,3,*(i + 2))(1);", 24),
+        // names of nearer and of farther lists, behind lists that have none of them; one is bound in between
+        (
+            b"process = f(1) with{f(a)=a+b+c+d with{e=1;}with{e=2;}with{e=3;}with{e=4;}with{e=5;};} \
+              with{b=10;}with{a=1000;b=20;c=100;}with{e=6;}with{a=2000;c=200;d=1000;};",
+            1111,
+        ),
         // a name that many lists define, behind as many that do not, again and again
         (
             b"process = f(3) with{f(0)=0;f(n)=q+f(n-1);} \

@@ -8,9 +8,12 @@ use Rattle.std.proofs.lemmas.Option.{none-some, slice_get_within, slice_get_read
 use Rattle.fv_parse.specs.Trees.{Parsed}
 use Rattle.fv_eval_scopes.specs.declared.value.Scope as code_scope
 use Rattle.fv_eval_scopes.specs.Environments.{scope_in, outer_number}
-use Rattle.fv_eval_choosing.specs.declared.shortcuts.Shortcut.{Shortcut}
-use Rattle.fv_eval_choosing.specs.Shortcuts.{AreShortcuts, HasNothing, SkipsTo, SkipsBy}
+use Rattle.fv_eval_choosing.specs.declared.slots.Shortcut.{Shortcut}
+use Rattle.fv_eval_choosing.specs.declared.shortcuts.Shortcuts.{Shortcuts}
+use Rattle.fv_eval_choosing.specs.Shortcuts.{AreShortcuts, AreSlots}
+use Rattle.fv_eval_choosing.specs.Outward.{HasNothing, SkipsTo, SkipsBy}
 use Rattle.fv_eval_choosing.proofs.Lookups.{StillReaches, look_begins, look_further, look_goes_on}
+use Rattle.fv_eval_choosing.proofs.Arounds.{around_grows}
 
 pub skips_none : (p : Parsed) (scopes : List code_scope.Scope) (name env : ℕ) → SkipsTo p scopes name env env
 skips_none p scopes name env = (0, refl)
@@ -53,14 +56,15 @@ module _ (p : Parsed) (old new : List code_scope.Scope)
   skips_stay name (suc n) env at h = (h.0, scope_stays env h.0 h.1, h.2, h.3, skips_stay name n (outer_number h.0) at h.4)
 
   -- what is remembered of them is still true
-  pub shortcuts_grow : (xs : List Shortcut) → AreShortcuts p old xs → AreShortcuts p new xs
-  shortcuts_grow xs h i x e = let k = h i x e in (k.0, skips_stay x.name k.0 x.from x.to k.1)
+  pub shortcuts_grow : (xs : Shortcuts) → AreShortcuts p old xs → AreShortcuts p new xs
+  shortcuts_grow xs h =
+      (λ i x e. let k = h.0 i x e in (k.0, skips_stay x.name k.0 x.from x.to k.1), around_grows old new same p xs.around skips_stay h.1)
 
 -- ---- what is remembered
 
 -- one slot anew
-pub shortcuts_set : (p : Parsed) (scopes : List code_scope.Scope) (xs : List Shortcut) (i : ℕ) (x : Shortcut) → i < length xs → AreShortcuts p scopes xs
-    → SkipsTo p scopes x.name x.from x.to → AreShortcuts p scopes (set xs i x)
+pub shortcuts_set : (p : Parsed) (scopes : List code_scope.Scope) (xs : List Shortcut) (i : ℕ) (x : Shortcut) → i < length xs → AreSlots p scopes xs
+    → SkipsTo p scopes x.name x.from x.to → AreSlots p scopes (set xs i x)
 shortcuts_set p scopes xs i x l h way j y e = go (cases_eq j i)
   where
     within : j < length xs
@@ -77,8 +81,8 @@ shortcuts_set p scopes xs i x l h way j y e = go (cases_eq j i)
         h j y (slice_get_read xs (length xs) j y refl within (at ∙ get_or-set_other xs i j x y apart))
 
 -- one slot more
-pub shortcuts_push : (p : Parsed) (scopes : List code_scope.Scope) (xs ys : List Shortcut) (x : Shortcut) → ys ≡ xs ++ x ∷ [] → AreShortcuts p scopes xs
-    → SkipsTo p scopes x.name x.from x.to → AreShortcuts p scopes ys
+pub shortcuts_push : (p : Parsed) (scopes : List code_scope.Scope) (xs ys : List Shortcut) (x : Shortcut) → ys ≡ xs ++ x ∷ [] → AreSlots p scopes xs
+    → SkipsTo p scopes x.name x.from x.to → AreSlots p scopes ys
 shortcuts_push p scopes xs ys x pushed h way i y e = go (cases_lt i (length xs))
   where
     got : slice_get (xs ++ x ∷ []) i ≡ Some y
@@ -99,17 +103,17 @@ shortcuts_push p scopes xs ys x pushed h way i y e = go (cases_lt i (length xs))
 -- ---- a look-up
 
 -- A look-up has come from an environment over a mark to another environment.
-pub record HasCome (p : Parsed) (scopes : List code_scope.Scope) (xs : List Shortcut) (name env mark at : ℕ) : Type 0 where
+pub record HasCome (p : Parsed) (scopes : List code_scope.Scope) (xs : Shortcuts) (name env mark at : ℕ) : Type 0 where
   pub kept : AreShortcuts p scopes xs
   pub whole : SkipsTo p scopes name env at
   pub marked : SkipsTo p scopes name mark at
 
-pub look_begins_here : (p : Parsed) (scopes : List code_scope.Scope) (xs : List Shortcut) (name env : ℕ) → AreShortcuts p scopes xs
+pub look_begins_here : (p : Parsed) (scopes : List code_scope.Scope) (xs : Shortcuts) (name env : ℕ) → AreShortcuts p scopes xs
     → HasCome p scopes xs name env env env
 look_begins_here p scopes xs name env h = record { kept = h; whole = skips_none p scopes name env; marked = skips_none p scopes name env }
 
 -- It goes on to a next environment and a next mark.
-pub under_way_on : (p : Parsed) (scopes : List code_scope.Scope) (xs ys : List Shortcut) (name env mark at next last : ℕ)
+pub under_way_on : (p : Parsed) (scopes : List code_scope.Scope) (xs ys : Shortcuts) (name env mark at next last : ℕ)
     → HasCome p scopes xs name env mark at → SkipsTo p scopes name at next
     → (SkipsTo p scopes name mark next → SkipsTo p scopes name last next)
     → (AreShortcuts p scopes xs → SkipsTo p scopes name mark next → AreShortcuts p scopes ys) → HasCome p scopes ys name env last next

@@ -2,8 +2,7 @@
 use Rattle.std.specs.Prelude.{◌≡◌, ℕ, suc, ◌<◌, Bool, true, false, List, [], ◌∷◌, length, filter, Option, Some, None}
 use Rattle.std.specs.List.{list_all}
 use Rattle.fv_parse_grammar.specs.headline.Tree.{Tree, Named, items}
-use Rattle.fv_parse.specs.headline.Trees.{text_of}
-use Rattle.fv_parse.specs.Trees.{Parsed, size_of, tree_in, first_named}
+use Rattle.fv_parse.specs.Trees.{Parsed, size_of, tree_in}
 use Rattle.fv_eval_scopes.specs.declared.value.Meaning as code_meaning
 use Rattle.fv_rules.specs.headline.Values.{Name, Env, Meaning, is_of, definition_of, or_else}
 use Rattle.fv_eval_scopes.specs.Shows.{World, ShowsEnv, ShowsMeaning}
@@ -12,12 +11,6 @@ use Rattle.fv_eval_scopes.specs.Shows.{World, ShowsEnv, ShowsMeaning}
 abbrev pub SaysOrPasses : World → Option code_meaning.Meaning → (here beyond : Meaning) → Type 0
 SaysOrPasses w (Some m) here beyond = ShowsMeaning w m here
 SaysOrPasses w None here beyond = here ≡ beyond
-
--- no list but these has a definition of the name
-abbrev pub HoldsNone : Parsed → ℕ → (ℕ → Type 0) → Type 0
-HoldsNone p name Keys =
-    (list n : ℕ) → list < size_of p → (Keys list → ⊥) → first_named p.tokens n ≡ name
-    → filter (is_of p.tokens (text_of p.tokens n)) (items (tree_in p list)) ≡ []
 
 -- this is what the definitions of a name in a list make of it, where this is the first one of so many
 abbrev pub IsMade : Parsed → (list first count env : ℕ) → code_meaning.Meaning → Type 0

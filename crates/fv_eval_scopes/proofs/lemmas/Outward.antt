@@ -5,7 +5,7 @@ use Rattle.std.specs.Prelude.{slice_get}
 use Rattle.std.proofs.lemmas.Bool.{cases_lt}
 use Rattle.std.proofs.lemmas.List.{length_push}
 use Rattle.std.proofs.lemmas.Option.{none-some, same_Some, slice_get_within, slice_get-get_or}
-use Rattle.fv_eval_scopes.specs.declared.tries.TheConstants.{LEVELS}
+use Rattle.fv_eval_scopes.specs.declared.ways.TheConstants.{LEVELS}
 use Rattle.fv_eval_scopes.specs.declared.tries.Fork.{Fork}
 use Rattle.fv_eval_scopes.specs.declared.ways.Way.{Way}
 use Rattle.fv_eval_scopes.specs.declared.ways.Ways.{Ways}
@@ -13,7 +13,7 @@ use Rattle.fv_eval_scopes.specs.declared.value.Scope as code_scope
 use Rattle.fv_eval_scopes.specs.Tries.{found, IsGrown, IsWith}
 use Rattle.fv_eval_scopes.specs.Ways.{HasOther, PassesBy, PassesTo, IsWay, AreWays, key_of, or_end}
 use Rattle.fv_eval_scopes.proofs.lemmas.Grown.{place_stays, last_place}
-use Rattle.fv_eval_scopes.proofs.Forks.{found_on, there_on, grown_none, nothing_there, nothing_found}
+use Rattle.fv_eval_scopes.proofs.lemmas.Forks.{found_on, there_on, grown_none, nothing_there, nothing_found}
 use Rattle.fv_eval_scopes.specs.Environments.{outer_number}
 
 -- ---- one scope more

@@ -1,6 +1,7 @@
 use Rattle.std.proofs.Common.{arith, sym, subst}
 use Rattle.fv_eval_scopes.specs.declared.value.Meaning.TheVariants as meaning
-use Rattle.fv_eval_choosing.specs.Shortcuts.{SkipsTo}
+use Rattle.fv_eval_choosing.specs.declared.shortcuts.Shortcuts.{Shortcuts}
+use Rattle.fv_eval_choosing.specs.Outward.{SkipsTo}
 use Rattle.fv_eval_choosing.proofs.Lookups.{look_finds, look_stops, look_ends}
 use Rattle.fv_eval_choosing.proofs.lemmas.Skipped.{look_begins_here, skips_one, skips_reach, under_way_on}
 use Rattle.fv_eval_choosing.proofs.lookup.Definitions.look_up.Goals as goal
@@ -10,7 +11,7 @@ outward-init c = look_begins_here c.args.self.now c.args.scopes.now.scopes c.arg
 
 pub returns-in-Some-in_scope-clause-kept : goal.returns-in-Some-in_scope-clause-kept
 returns-in-Some-in_scope-clause-kept c = λ kept.
-    let u = c.outward.invariant kept in c.keep.ensures c.args.self.now c.args.scopes.now.scopes u.kept u.marked
+    let u = c.outward.invariant kept in (c.keep.ensures c.args.self.now c.args.scopes.now.scopes u.kept.0 u.marked, u.kept.1)
 
 pub returns-in-Some-in_scope-clause-means : goal.returns-in-Some-in_scope-clause-means
 returns-in-Some-in_scope-clause-means c = λ kept.
@@ -37,9 +38,10 @@ outward-preserved c = λ kept.
     let one = skips_one p scopes name at c.in-Some.scope (sym c.in-Some.ensures) (omega (arith, c.if-outer-at.false, c.outer_of-outer.ensures))
     c.in_default-in_scope.ensures in
     let foot = subst (SkipsTo p scopes name at) (sym c.outer_of-outer.ensures) one in
-    let next = c.next-at.ensures.skips foot (c.outward-direct.ensures p scopes u.kept) in
-    under_way_on p scopes c.outward.shortcuts c.mark-mark.new.self name c.args.env c.outward.mark at c.next-at.result c.mark-mark.result u next
-    (c.mark-mark.ensures.skips p scopes) (c.mark-mark.ensures.kept p scopes)
+    let next = c.next-at.ensures.skips u.kept.1 foot (c.outward-direct.ensures p scopes u.kept.0) in
+    let marked : Shortcuts = record { slots = c.mark-mark.new.self; around = c.next-at.new.around } in
+    under_way_on p scopes c.outward.shortcuts marked name c.args.env c.outward.mark at c.next-at.result c.mark-mark.result u next
+    (c.mark-mark.ensures.skips p scopes) (λ k m. (c.mark-mark.ensures.kept p scopes k.0 m, c.next-at.ensures.kept k.1))
 
 pub returns-clause-kept : goal.returns-clause-kept
 returns-clause-kept c = λ kept. (c.outward.invariant kept).kept

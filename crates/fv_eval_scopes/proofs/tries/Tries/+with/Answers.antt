@@ -2,7 +2,7 @@ use Rattle.std.proofs.Common.{◌≡◌, ◌⊎◌, ◌∙◌, ◌+◌, ◌-◌,
 use Rattle.std.proofs.lemmas.List.{length_push}
 use Rattle.fv_eval_scopes.specs.declared.tries.Fork.{Fork}
 use Rattle.fv_eval_scopes.specs.Tries.{child_of, AreThere, IsWith}
-use Rattle.fv_eval_scopes.proofs.Forks.{Joins, with_more}
+use Rattle.fv_eval_scopes.proofs.lemmas.Forks.{Joins, with_more}
 use Rattle.fv_eval_scopes.proofs.tries.Tries.+with.Goals as goal
 
 pub returns-clause-with : goal.returns-clause-with

@@ -1,7 +1,7 @@
 use Rattle.std.proofs.Common.{sym, subst}
-use Rattle.fv_eval_choosing.specs.Shortcuts.{AreShortcuts}
+use Rattle.fv_eval_choosing.specs.Shortcuts.{AreSlots}
 use Rattle.fv_eval_choosing.proofs.lemmas.Skipped.{shortcuts_push, skips_none}
-use Rattle.fv_eval_choosing.proofs.shortcuts.Shortcuts.widen.Goals as goal
+use Rattle.fv_eval_choosing.proofs.slots.Slots.widen.Goals as goal
 
 pub widen-preserved : goal.widen-preserved
 widen-preserved c = λ p scopes h.
@@ -9,4 +9,4 @@ widen-preserved c = λ p scopes h.
     (skips_none p scopes c.args.name c.args.from)
 
 pub returns-in_err-push : goal.returns-in_err-push
-returns-in_err-push c = λ p scopes h. subst (AreShortcuts p scopes) (sym c.in_err-push.ensures.items) (c.widen.invariant p scopes h)
+returns-in_err-push c = λ p scopes h. subst (AreSlots p scopes) (sym c.in_err-push.ensures.items) (c.widen.invariant p scopes h)

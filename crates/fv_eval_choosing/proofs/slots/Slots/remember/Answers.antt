@@ -1,12 +1,12 @@
 use Rattle.std.proofs.Common.{sym, subst}
-use Rattle.fv_eval_choosing.specs.Shortcuts.{AreShortcuts}
+use Rattle.fv_eval_choosing.specs.Shortcuts.{AreSlots}
 use Rattle.fv_eval_choosing.proofs.lemmas.Skipped.{shortcuts_set}
-use Rattle.fv_eval_choosing.proofs.shortcuts.Shortcuts.remember.Goals as goal
+use Rattle.fv_eval_choosing.proofs.slots.Slots.remember.Goals as goal
 
 pub returns-in-Some : goal.returns-in-Some
 returns-in-Some c = λ p scopes h way.
     shortcuts_set p scopes c.self.inside.slots.items c.in-Some.i (record { name = c.args.name; from = c.args.from; to = c.args.to }) c.in-Some.ensures
-    (subst (AreShortcuts p scopes) (sym c.self.view_is) (c.widen.ensures p scopes h)) way
+    (subst (AreSlots p scopes) (sym c.self.view_is) (c.widen.ensures p scopes h)) way
 
 pub returns-in_default : goal.returns-in_default
-returns-in_default c = λ p scopes h way. subst (AreShortcuts p scopes) (sym c.self.view_is) (c.widen.ensures p scopes h)
+returns-in_default c = λ p scopes h way. subst (AreSlots p scopes) (sym c.self.view_is) (c.widen.ensures p scopes h)
