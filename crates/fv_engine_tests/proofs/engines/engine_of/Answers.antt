@@ -3,6 +3,9 @@ use Rattle.fv_split_plan.specs.Code.{NamesHeld}
 use Rattle.fv_split_plan.specs.headline.View.{PlanView}
 use Rattle.fv_engine_tests.proofs.engines.engine_of.Goals as goal
 
+pub prepare-requires-clause-inputs : goal.prepare-requires-clause-inputs
+prepare-requires-clause-inputs c = λ j i h. c.names_beyond-beyond.ensures.inputs c.if-beyond.false i (c.in_ok-plan.ensures.names.inputs j i h)
+
 pub returns : goal.returns
 returns c =
     let parts = c.in_ok-engine.ensures.parts in

@@ -15,6 +15,10 @@ slice_bounds-heard-end g c =
     let e = part_end c.playing.frame n c.args.frames c.args.sizes.width inside in
     omega (arith, e, c.requires.input)
 
+pub run_block-report-requires-clause-controls : goal.run_block-report-requires-clause-controls
+run_block-report-requires-clause-controls g c κs within = λ k h.
+    c.requires.engine.named k (subst (λ (e : EngineView). NamesHeld e.plan.held k) c.playing.invariant.same h)
+
 pub returns : goal.returns
 returns g c =
     let same = c.playing.invariant.same in let is = c.requires.engine in
