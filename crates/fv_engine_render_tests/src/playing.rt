@@ -112,7 +112,7 @@ pub(crate) fn rendered_by<R: Threads + Wait + Sync, G: Gate + Sync>(
         vector,
         workers,
     };
-    let ready = make_ready(alloc, &source, &sizes)?;
+    let ready = make_ready(alloc, &source, script.changes(), &sizes)?;
     let played = Played {
         inputs: arity.inputs,
         outputs: arity.outputs,
