@@ -2,6 +2,6 @@ pub mod StepLists
 pub mod StepStreams
 pub mod Codes
 pub mod Histories
-pub mod Sound
+pub mod Faithful
 pub mod Starts
 pub mod Stands

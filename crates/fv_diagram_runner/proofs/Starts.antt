@@ -28,7 +28,7 @@ use Rattle.fv_diagram_runner.specs.inner.Code.{Code, HasLoops, input_code, shut,
 use Rattle.fv_diagram.proofs.lemmas.Places.{prefix_long, prefix_get}
 use Rattle.fv_diagram_runner.proofs.StepStreams.{step_is}
 use Rattle.fv_diagram.proofs.lemmas.Meaning.{AllLists, walk_goes, walk_means}
-use Rattle.fv_diagram_runner.proofs.Sound.{Onward, GoesOn, runner_is_orderly, runner_is_sound}
+use Rattle.fv_diagram_runner.proofs.Faithful.{Onward, GoesOn, runner_is_orderly, runner_is_faithful}
 
 -- ---- the controls that the code reads
 
@@ -153,7 +153,7 @@ made_stands d wf numbers closed ends =
     let go = walk_goes runner_hooks HasLoops Onward runner_is_orderly d no_slots (input_registers n) p wf wide none in
     let end : GoesOn q q = record { steps = prefix_refl q.steps; lists = prefix_refl q.lists; cells = omega arith; same = λ k l h. refl } in
     let means = λ (c x : ℕ → Stream).
-    walk_means runner_hooks HasLoops Onward (GoesOn q) AreNumbers (wires q.steps q.sources q.lists c x) c runner_is_orderly (runner_is_sound q o c x) d
+    walk_means runner_hooks HasLoops Onward (GoesOn q) AreNumbers (wires q.steps q.sources q.lists c x) c runner_is_orderly (runner_is_faithful q o c x) d
     no_slots (input_registers n) p wf (lists_of d numbers) wide none end in
     let start : (c x : ℕ → Stream) → IsPrefixOf p.steps q.steps = λ c x. (means c x).holds.steps in
     let first : List Step = step.Number (pos 0) ∷ [] in

@@ -12,7 +12,7 @@ ghost use Rattle.fv_rules.specs.declared.refusal.TableCause.TheVariants.{Primiti
 ghost use Rattle.fv_eval_scopes.specs.declared.value.Value.TheVariants.{Diagram};
 ghost use Rattle.fv_rules.specs.headline.Values.{is_of};
 ghost use Rattle.fv_rules.specs.headline.Rules.{program_value, start};
-ghost use Rattle.fv_rules.specs.Sound.{IsSoundProgram};
+ghost use Rattle.fv_rules.specs.Runnable.{IsRunnable};
 ghost use Rattle.fv_eval_machine.specs.Machine.{first, meaning};
 ghost use Rattle.fv_eval.specs.inner.Continuations.{Continues};
 ghost use Rattle.fv_eval.specs.inner.Names.{defined_by};
@@ -28,7 +28,7 @@ use fv_eval_controls::Controls;
 use fv_eval_machine::steps_mean;
 use fv_eval_scopes::Value;
 use fv_parse::{Tree, TreeId, TreeNode};
-use fv_rules::{EvalRefusal, TableCause, evaluates_soundly};
+use fv_rules::{EvalRefusal, TableCause, evaluates_to_runnables};
 use std::alloc::{AllocError, Global};
 use std::marker::Model;
 
@@ -44,14 +44,14 @@ pub struct Program {
 impl Model for Program {
     ghost use Rattle.std.specs.Prelude.{◌<◌};
     ghost use Rattle.fv_diagram.specs.Arena.{count_of, tree_of};
-    ghost use Rattle.fv_rules.specs.Sound.{IsSoundProgram};
+    ghost use Rattle.fv_rules.specs.Runnable.{IsRunnable};
     ghost use Rattle.fv_eval.specs.Evaluated.{Evaluated};
 
     ghost Value = { Evaluated };
 
     ghost view = { λ p. record { diagrams = p.diagrams; root = p.root; controls = p.controls } };
 
-    ghost invariant = { λ p. (p.root < count_of p.diagrams) × IsSoundProgram (tree_of p.diagrams p.root) p.controls };
+    ghost invariant = { λ p. (p.root < count_of p.diagrams) × IsRunnable (tree_of p.diagrams p.root) p.controls };
 }
 
 // The name that a node defines.
@@ -110,8 +110,8 @@ fn started(alloc: Global, tree: &Tree, name: u64) -> Result<(Machine, Focus), Al
 fn finished(machine: Machine, value: Value) -> Result<Program, EvalRefusal>
     requires flat { (i : ℕ) × (value ≡ Diagram i) }
     requires inside { (i : ℕ) → value ≡ Diagram i → i < count_of machine.drawing.diagrams }
-    requires sound { (i : ℕ) → value ≡ Diagram i → has_table_primitive (tree_of machine.drawing.diagrams i) ≡ false
-        → IsSoundProgram (tree_of machine.drawing.diagrams i) machine.controls }
+    requires runs { (i : ℕ) → value ≡ Diagram i → has_table_primitive (tree_of machine.drawing.diagrams i) ≡ false
+        → IsRunnable (tree_of machine.drawing.diagrams i) machine.controls }
     ensures program { IfOk result
         (λ p. (value ≡ Diagram p.root) × (p.diagrams ≡ machine.drawing.diagrams) × (p.controls ≡ machine.controls)
         × (has_table_primitive (tree_of machine.drawing.diagrams p.root) ≡ false)) }
@@ -142,11 +142,11 @@ pub fn evaluate(alloc: Global, tree: &Tree) -> Result<Program, EvalRefusal>
     ensures program { IfOk result (λ p. program_value tree.now.tokens (program_of tree.now) ≡ Ok (tree_of p.diagrams p.root, p.controls)) }
     ensures refusal { IfErr result (λ e. (e ≡ NoMemory) ⊎ (program_value tree.now.tokens (program_of tree.now) ≡ Err e)) }
     // What can run: from the type's invariant, said again for readers.
-    ensures sound { IfOk result (λ p. (p.root < count_of p.diagrams) × IsSoundProgram (tree_of p.diagrams p.root) p.controls) }
+    ensures runs { IfOk result (λ p. (p.root < count_of p.diagrams) × IsRunnable (tree_of p.diagrams p.root) p.controls) }
     ensures numbers { IfOk result (λ p. HasNumbers (tree_of p.diagrams p.root)) }
 {
     steps_mean();
-    evaluates_soundly();
+    evaluates_to_runnables();
     let text = Definitions::new(alloc, tree)?;
     let Some(name) = process_name(tree) else {
         let name = Word::new(alloc, b"process")?;

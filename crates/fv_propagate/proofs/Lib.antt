@@ -1,7 +1,7 @@
 pub mod Alongside
 pub mod Puts
 pub mod Goes
-pub mod Sound
+pub mod Faithful
 pub mod lemmas
 pub mod Ranged
 pub mod Kept

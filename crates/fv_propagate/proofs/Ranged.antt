@@ -35,7 +35,7 @@ use Rattle.fv_propagate.specs.inner.Progress.{late_of, turned, counted_of, liste
 use Rattle.fv_propagate.proofs.Alongside.{IsOfLeaf, KeepAlong, related_at, related_places, related_length}
 use Rattle.fv_propagate.proofs.Puts.{put_cases, put_at, puts_at, puts_wide, puts_delays, next_keeps, listed_is}
 use Rattle.fv_propagate.proofs.Goes.{IsGood, GoesOn, filled, before_put, before_mem}
-use Rattle.fv_propagate.proofs.Sound.{padded_first, put_gives, mem_gives, prefix_gives, member_gives, shows_table}
+use Rattle.fv_propagate.proofs.Faithful.{padded_first, put_gives, mem_gives, prefix_gives, member_gives, shows_table}
 use Rattle.fv_diagram.specs.headline.Diagram.{Table, table_inputs}
 use Rattle.fv_diagram.specs.Diagram.{AreNumbers}
 use Rattle.fv_diagram.specs.headline.Streams.{table_at}

@@ -39,7 +39,7 @@ use Rattle.fv_propagate.proofs.Alongside.{walk_back, walked_along, related_place
 use Rattle.fv_propagate.proofs.Puts.{put_there, puts_at, puts_wide, puts_groups, puts_closed, puts_delays, puts_feedbacks, puts_keep}
 use Rattle.fv_propagate.proofs.Kept.{puts_all_there}
 use Rattle.fv_propagate.proofs.Goes.{IsGood, Onward, GoesOn, on_same_groups, stays_good, signals_are_orderly, signals_hold_back}
-use Rattle.fv_propagate.proofs.Sound.{AreWide, node_is, signals_are_sound}
+use Rattle.fv_propagate.proofs.Faithful.{AreWide, node_is, signals_are_faithful}
 use Rattle.fv_propagate.proofs.lemmas.Named.{still, Any, IsNamed, AreNamed, named_put, named_puts, names_keep, leaves_had, lists_had}
 use Rattle.fv_signal.proofs.lemmas.Fits.{full_of, values_fit}
 use Rattle.fv_propagate.proofs.Ranged.{LiesIn, AreRanged, Beside, ranged_put, ranged_puts, not_clamped, spans_keep}
@@ -189,7 +189,7 @@ module _ (d : Diagram) (delays : List ℕ) (wf : IsWellFormed d) (free : HasNoFr
     wired : Wired (λ s. value graph s X c) c d no_slots first.0 made.0
     wired =
         (walk_means signal_hooks IsGood Onward (GoesOn graph) AreNumbers (λ s. value graph s X c) c signals_are_orderly
-        (signals_are_sound graph whole.ordered X c wide) d no_slots
+        (signals_are_faithful graph whole.ordered X c wide) d no_slots
         first.0 first.1 wf (lists_had d numbers) first_wide first_good goes_on).wired
 
     -- the signals of the inputs carry the frames

@@ -36,7 +36,7 @@ use Rattle.fv_rules.specs.headline.Rules.{literal_value, primitive_of, switch_ki
 use Rattle.fv_rules.specs.headline.Rules.{defined_value, meant, name_value, arguments, all_turned, width, selected, applied}
 use Rattle.fv_rules.specs.headline.Rules.{bodies, counted, ports, read_number, parameters, slider_info, switch_info, abstraction, rule, descend}
 use Rattle.fv_rules.specs.headline.Rules.{within, ev, finished, start, program_value}
-use Rattle.fv_rules.specs.Sound.{IsSoundProgram}
+use Rattle.fv_rules.specs.Runnable.{IsRunnable}
 use Rattle.fv_diagram.specs.Controls.{IsBounded}
 use Rattle.fv_rules.proofs.SoundValues.{IsSound, SoundValue, SoundEnv, SoundTaken, SoundState, AllSound, AllValues, sound_grows, env_grows}
 use Rattle.fv_rules.proofs.SoundValues.{keep, keep_value, keep_env, keep_all, keep_values, all_snoc, values_snoc}
@@ -468,7 +468,7 @@ whole_does k d g = by (has_table_primitive d) refl
     by false e = give_does (λ n h. (keep (λ s. ⊥) k n d h g, e))
 
 finished_sound : (r : Outcome Diagram) (d : Diagram) (cs : List ControlInfo) → Stays CanRun 0 start r → finished r ≡ Ok (d, cs)
-    → IsSoundProgram d cs
+    → IsRunnable d cs
 finished_sound (Ok x) d cs g e =
     let v = g.1 in
     let z = g.0 in
@@ -477,7 +477,7 @@ finished_sound (Ok x) d cs g e =
     (record { well = composed_is_well x.0 i.composed g.3.1; within = i.within; closed = i.free; reads = i.reads; bounded = g.2; few = omega arith })
   where
     IfSound : Result (Diagram × List ControlInfo) EvalRefusal → Type 0
-    IfSound (Ok p) = IsSoundProgram p.0 p.1
+    IfSound (Ok p) = IsRunnable p.0 p.1
     IfSound (Err r) = Unit {0}
 finished_sound (Err r) d cs g e = absurd (subst (λ (o : Result (Diagram × List ControlInfo) EvalRefusal). IsErrs o) e tt)
   where
@@ -500,8 +500,8 @@ program_does l x =
     bind_does made (λ d n h i. whole_does n d i) in
     all.stays start (omega arith) (All-nil IsBounded)
 
-pub evaluates_soundly : (l : Lexed) (x : Tree) (d : Diagram) (cs : List ControlInfo) → program_value l x ≡ Ok (d, cs) → IsSoundProgram d cs
-evaluates_soundly l x d cs e = finished_sound (program l x) d cs (program_does l x) e
+pub evaluates_to_runnables : (l : Lexed) (x : Tree) (d : Diagram) (cs : List ControlInfo) → program_value l x ≡ Ok (d, cs) → IsRunnable d cs
+evaluates_to_runnables l x d cs e = finished_sound (program l x) d cs (program_does l x) e
 
 finished_cause : (r : Outcome Diagram) → Stays CanRun 0 start r → finished r ≡ Err NoMemory → ⊥
 finished_cause (Ok x) g e = subst (λ (o : Result (Diagram × List ControlInfo) EvalRefusal). IsCaused o) e tt

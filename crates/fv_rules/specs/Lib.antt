@@ -1,7 +1,7 @@
 pub mod headline
 pub mod Values
 pub mod Rules
-pub mod Sound
+pub mod Runnable
 pub mod Puts
 pub mod Examples
 -- what it hands on of crates below

@@ -7,7 +7,7 @@ mod literals;
 mod putting;
 mod refusal;
 
-pub use laws::{evaluates_soundly, evaluation_follows, literals_stay};
+pub use laws::{evaluates_to_runnables, evaluation_follows, literals_stay};
 pub use literals::{literal, literal_value, negative_literal};
 pub use putting::put;
 pub use refusal::{EvalRefusal, TableCause, too_many_to_count, too_many_to_keep};

@@ -22,7 +22,7 @@ use Rattle.fv_jobs_controls.specs.headline.Labels.{controls_from, labelled}
 use Rattle.fv_jobs_controls.specs.Labels.{controls_before}
 use Rattle.fv_join_diagrams.specs.headline.Parts.{Part}
 use Rattle.fv_join_diagrams.specs.Parts.{PartsAnswer, PartsAreWhole, controls_of, inputs_of}
-use Rattle.fv_rules.specs.Sound.{EvaluatesSoundly, IsSoundProgram}
+use Rattle.fv_rules.specs.Runnable.{EvaluatesToRunnables, IsRunnable}
 use Rattle.fv_rules.specs.headline.Rules.{program_value}
 use Rattle.fv_top_report.specs.declared.refusal.Refusal.{Refusal}
 use Rattle.fv_top_report.specs.declared.refusal.Refusal.TheVariants as no
@@ -63,15 +63,15 @@ valued_so : (p : Compiled) (r : Result (Diagram × List ControlInfo) _) → valu
 valued_so p (Ok v) is = let same : record { diagram = v.0; controls = v.1 } ≡ p = cc in ap (λ (q : Compiled). Ok (q.diagram, q.controls)) same
 valued_so p (Err e) is = absurd cc
 
-pub sound_text : EvaluatesSoundly → (text : List ℕ) (p : Compiled) → TextIs text (Ok p) → IsSoundProgram p.diagram p.controls
-sound_text sound text p h =
+pub runnable_text : EvaluatesToRunnables → (text : List ℕ) (p : Compiled) → TextIs text (Ok p) → IsRunnable p.diagram p.controls
+runnable_text runs text p h =
     let wide = then_parts WidthIs Delayed text p (Ok p) refl h in
     let value = then_parts ValueIs Narrow text wide.0 (Ok wide.0) refl wide.1 in
     let spelled = then_parts SpellingIs (Turned of_value Evaluates) text value.0 (Ok value.0) refl value.1 in
     let is = kept_is of_value Evaluates spelled.0 value.0 spelled.2 in
     let same : value.0 ≡ p = same_width value.0 wide.0 value.2 ∙ same_delays wide.0 p (first_bad (delays_in wide.0)) wide.2 in
-    subst (λ (q : Compiled). IsSoundProgram q.diagram q.controls) same
-    (sound spelled.0.tokens spelled.0.tree value.0.diagram value.0.controls (valued_so value.0 (program_value spelled.0.tokens spelled.0.tree) is))
+    subst (λ (q : Compiled). IsRunnable q.diagram q.controls) same
+    (runs spelled.0.tokens spelled.0.tree value.0.diagram value.0.controls (valued_so value.0 (program_value spelled.0.tokens spelled.0.tree) is))
 
 -- ---- the programs of texts
 
@@ -122,7 +122,7 @@ item_of g (x ∷ xs) (suc k) d l =
 
 -- ---- each job
 
-module _ (alike : (d : Diagram) → AnswersAlike d) (hear : JobsHear) (parts : PartsAnswer) (whole : PartsAreWhole) (sound : EvaluatesSoundly) where
+module _ (alike : (d : Diagram) → AnswersAlike d) (hear : JobsHear) (parts : PartsAnswer) (whole : PartsAreWhole) (runs : EvaluatesToRunnables) where
   pub jobs_answer : JobsAnswer
   jobs_answer r k d l j t m u =
       let ps = r.programs in
@@ -136,8 +136,8 @@ module _ (alike : (d : Diagram) → AnswersAlike d) (hear : JobsHear) (parts : P
       let long : length r.texts ≡ length ps = each_long 0 r.texts ps r.are in
       let text : (i : ℕ) (e : Compiled) → i < length ps → TextIs (get_or r.texts i []) (Ok (get_or ps i e)) =
       λ i e h. each_text 0 r.texts ps r.are i e (omega (arith, h, long)) in
-      let able : (i : ℕ) (e : Compiled) → i < length ps → IsSoundProgram (let q = get_or ps i e in q.diagram) (let q = get_or ps i e in q.controls) =
-      λ i e h. sound_text sound (get_or r.texts i []) (get_or ps i e) (text i e h) in
+      let able : (i : ℕ) (e : Compiled) → i < length ps → IsRunnable (let q = get_or ps i e in q.diagram) (let q = get_or ps i e in q.controls) =
+      λ i e h. runnable_text runs (get_or r.texts i []) (get_or ps i e) (text i e h) in
       let well = All-map (λ (q : Part). IsWellFormed q.diagram) part_of ps (λ i e h. let s = able i e h in s.well) in
       let w = whole 0 (map part_of ps) in
       let wide = subst (λ i. All (λ (x : Frame). length x ≡ i) X) w.inputs r.wide in

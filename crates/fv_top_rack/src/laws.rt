@@ -6,7 +6,7 @@ ghost use Rattle.fv_top_rack.specs.Runs.{JobsAnswer, RunsAgree};
 use fv_diagram::answers_alike;
 use fv_jobs_controls::jobs_hear_their_changes;
 use fv_join_diagrams::{parts_answer, parts_are_whole};
-use fv_rules::evaluates_soundly;
+use fv_rules::evaluates_to_runnables;
 use fv_top_text::one_program;
 
 /// A file of each kind is one program, or it is refused for one thing, and never both.
@@ -37,6 +37,6 @@ pub fn jobs_answer()
     jobs_hear_their_changes();
     parts_answer();
     parts_are_whole();
-    evaluates_soundly();
+    evaluates_to_runnables();
     one_program();
 }

@@ -140,7 +140,7 @@ AllLists Fits (Slot s) = Unit {0}
 
 -- The laws of one user of the walk. Holds s: v is right for the signals s. Onward s q: q has grown from s, with the same
 -- feedbacks open.
-pub record AreSound {S : Type 0} (h : Hooks ℕ S) (Good : S → Type 0) (Onward : S → S → Type 0) (Holds : S → Type 0) (Fits : List ℤ → Type 0)
+pub record AreFaithful {S : Type 0} (h : Hooks ℕ S) (Good : S → Type 0) (Onward : S → S → Type 0) (Holds : S → Type 0) (Fits : List ℤ → Type 0)
     (v c : ℕ → Stream) : Type 0 where
   pub primitives : (p : Prim) (slots : ℕ → ℕ) (ins : List ℕ) (s : S) → Good s → is_table_primitive p ≡ false → length ins ≡ primitive_inputs p
       → Holds (primitive h p ins s).1 →
@@ -163,7 +163,7 @@ pub record AreSound {S : Type 0} (h : Hooks ℕ S) (Good : S → Type 0) (Onward
       × (carried v (h.opened n z).0 0 ≡ replicate n (pos 0)) × ((t : ℕ) → carried v (h.opened n z).0 (suc t) ≡ take n (carried v outs t))
 
 module _ {S : Type 0} (h : Hooks ℕ S) (Good : S → Type 0) (Onward : S → S → Type 0) (Holds : S → Type 0) (Fits : List ℤ → Type 0) (v c : ℕ → Stream)
-    (orderly : AreOrderly h Good Onward) (laws : AreSound h Good Onward Holds Fits v c) where
+    (orderly : AreOrderly h Good Onward) (laws : AreFaithful h Good Onward Holds Fits v c) where
   goes : (d : Diagram) (slots : ℕ → ℕ) (ins : List ℕ) (s : S) → IsWellFormed d → length ins ≡ inputs d → Good s →
       (length (walked h 0 d slots ins s).0 ≡ outputs d) × Onward s (walked h 0 d slots ins s).1
   goes d slots ins s = walk_goes h Good Onward orderly d slots ins s

@@ -43,13 +43,13 @@ came_to c i e =
 pub finished-requires-clause-inside : goal.finished-requires-clause-inside
 finished-requires-clause-inside c = λ i e. (came_to (goal.at.finished-requires-clause-inside c).In-Ok i e).0
 
-pub finished-requires-clause-sound : goal.finished-requires-clause-sound
-finished-requires-clause-sound c =
+pub finished-requires-clause-runs : goal.finished-requires-clause-runs
+finished-requires-clause-runs c =
     let p = c.args.tree.now in
     let n = c.run.new.self in
     λ i e h.
-    let came = came_to (goal.at.finished-requires-clause-sound c).In-Ok i e in
-    c.evaluates_soundly.ensures.sound p.tokens (program_of p) (tree_of n.drawing.diagrams i) n.controls
+    let came = came_to (goal.at.finished-requires-clause-runs c).In-Ok i e in
+    c.evaluates_to_runnables.ensures.runs p.tokens (program_of p) (tree_of n.drawing.diagrams i) n.controls
     (is_program p (tree_of n.drawing.diagrams i) (state_of n) came.1 h)
 
 pub returns-in-Ok-clause-program : goal.returns-in-Ok-clause-program

@@ -2,7 +2,7 @@ use Rattle.std.proofs.Common.{◌+◌, length, ap, ◌∙◌, arith}
 use Rattle.fv_base.proofs.lemmas.Lists.{length_table}
 use Rattle.fv_diagram_runner.specs.inner.Code.{code_of, with_cells}
 use Rattle.fv_diagram_runner.proofs.Codes.{steps_long, late_registers, code_opens}
-use Rattle.fv_diagram_runner.proofs.Sound.{cells_long}
+use Rattle.fv_diagram_runner.proofs.Faithful.{cells_long}
 use Rattle.fv_diagram_runner.proofs.draft.DraftSignals.open.Goals as goal
 
 pub invariant_of-self-2 : goal.invariant_of-self-2

@@ -11,7 +11,7 @@ use Rattle.fv_rules.specs.declared.refusal.EvalRefusal.TheVariants.{NoMemory}
 use Rattle.fv_rules.specs.headline.Rules.{program_value, visit_limit}
 
 -- A program's diagram and controls: it can run, names only these controls, and they are within their bounds.
-pub record IsSoundProgram (d : Diagram) (cs : List ControlInfo) : Type 0 where
+pub record IsRunnable (d : Diagram) (cs : List ControlInfo) : Type 0 where
   pub well : IsWellFormed d
   pub within : size d ≤ size_limit
   pub closed : HasNoFreeSlot d
@@ -20,8 +20,8 @@ pub record IsSoundProgram (d : Diagram) (cs : List ControlInfo) : Type 0 where
   pub few : length cs ≤ visit_limit
 
 -- What a program's value is made of can run.
-abbrev pub EvaluatesSoundly : Type 0
-EvaluatesSoundly = (l : Lexed) (x : Tree) (d : Diagram) (cs : List ControlInfo) → program_value l x ≡ Ok (d, cs) → IsSoundProgram d cs
+abbrev pub EvaluatesToRunnables : Type 0
+EvaluatesToRunnables = (l : Lexed) (x : Tree) (d : Diagram) (cs : List ControlInfo) → program_value l x ≡ Ok (d, cs) → IsRunnable d cs
 
 -- No rule refuses for want of memory.
 abbrev pub NeverWantsMemory : Type 0

@@ -37,7 +37,7 @@ use Rattle.fv_diagram.proofs.lemmas.Counting.{counts_on}
 use Rattle.fv_diagram.proofs.lemmas.Carried.{column_carries}
 use Rattle.fv_diagram.proofs.lemmas.Places.{prefix_snoc, prefix_long, prefix_get, table_replicate, carried_first, takes_some}
 use Rattle.fv_diagram_runner.proofs.StepStreams.{step_is, last_is, cell_is}
-use Rattle.fv_diagram.proofs.lemmas.Meaning.{AreOrderly, Means, AreSound}
+use Rattle.fv_diagram.proofs.lemmas.Meaning.{AreOrderly, Means, AreFaithful}
 
 -- ---- the laws without meaning
 
@@ -456,9 +456,9 @@ module _ (F : Code) (ordered : AreOrdered F.steps) (c x : ℕ → Stream) where
       (step_gives s (step.Number (pos n)) g2 t) in
       (before_step s (step.Number (pos n)) g2, counts_on n (v i) some fit starts goes_on, some)
 
-  pub runner_is_sound : AreSound runner_hooks HasLoops Onward (GoesOn F) AreNumbers (wires F.steps F.sources F.lists c x) c
+  pub runner_is_faithful : AreFaithful runner_hooks HasLoops Onward (GoesOn F) AreNumbers (wires F.steps F.sources F.lists c x) c
   unfolding v
-  runner_is_sound = record {
+  runner_is_faithful = record {
     primitives = shows;
     numbers = λ n slots ins s g. record { holds = before_step s (step.Number n) g; wired = λ t. ap (λ z. z ∷ []) (step_gives s (step.Number n) g t) };
     controls = λ k slots ins s g. record {

@@ -33,7 +33,7 @@ use Rattle.fv_diagram.proofs.lemmas.Carried.{column_carries}
 use Rattle.fv_diagram.proofs.lemmas.Places.{table_replicate, carried_items, carried_first}
 use Rattle.std.proofs.Common.{false}
 use Rattle.std.proofs.lemmas.Bool.{true≢false}
-use Rattle.fv_diagram.proofs.lemmas.Meaning.{Means, AreSound}
+use Rattle.fv_diagram.proofs.lemmas.Meaning.{Means, AreFaithful}
 use Rattle.fv_diagram.proofs.lemmas.Places.{takes_some}
 use Rattle.fv_propagate.specs.declared.progress.Feedback.{Feedback}
 use Rattle.fv_propagate.specs.inner.Progress.{Progress, put, puts, passed, put_mem, put_prefix, put_delay, opened_of, shut, closed_of, signal_hooks}
@@ -319,8 +319,8 @@ module _ (F : Graph) (ordered : IsOrdered F) (X : List Frame) (c : ℕ → Strea
     shows prim.ReadTable slots ins s good q e g = absurd (true≢false q)
     shows prim.WriteTable slots ins s good q e g = absurd (true≢false q)
 
-    pub signals_are_sound : AreSound signal_hooks IsGood Onward (GoesOn F) AreNumbers (λ s. value F s X c) c
-    signals_are_sound = record {
+    pub signals_are_faithful : AreFaithful signal_hooks IsGood Onward (GoesOn F) AreNumbers (λ s. value F s X c) c
+    signals_are_faithful = record {
       primitives = shows;
       counts = counts;
       tables = shows_table;
