@@ -3,3 +3,4 @@ pub mod Grown
 pub mod Outward
 pub mod Added
 pub mod Forks
+pub mod Skips

@@ -3,3 +3,5 @@ pub mod Tries
 pub mod Ways
 pub mod Shows
 pub mod Memo
+pub mod Outward
+pub mod Slots
