@@ -25,7 +25,7 @@ use Rattle.fv_eval_choosing.specs.declared.around.Nested.{Nested}
 use Rattle.fv_eval_choosing.specs.declared.around.Around.{Around}
 use Rattle.fv_eval_choosing.specs.Around.{HasNone, StopsAt, IsNearest, WasMade, IsRoot, IsNested, AreNested, AreAround}
 use Rattle.fv_eval_choosing.specs.ByName.{is_called}
-use Rattle.fv_eval_choosing.specs.Outward.{HasNothing, SkipsBy, SkipsTo}
+use Rattle.fv_eval_scopes.specs.Outward.{HasNothing, SkipsBy, SkipsTo}
 use Rattle.fv_eval_choosing.proofs.Lookups.{another_bound, definitions_say_in}
 use Rattle.fv_eval_choosing.proofs.Named.{no_more}
 

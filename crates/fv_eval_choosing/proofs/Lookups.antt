@@ -34,7 +34,7 @@ use Rattle.fv_eval_scopes.specs.Shows.{World, IsNamed, IsFunction, IsInside, giv
 use Rattle.fv_eval_scopes.specs.Shows.{ShowsTaken, ShowsMeaning}
 use Rattle.fv_eval_scopes.specs.declared.value.Ruled.{Ruled}
 use Rattle.fv_eval_choosing.proofs.RuleNodes.{IsNoFunction, AreOfName}
-use Rattle.fv_eval_choosing.specs.Outward.{HasNothing, outer}
+use Rattle.fv_eval_scopes.specs.Outward.{HasNothing, outer}
 use Rattle.fv_eval_choosing.specs.inner.Lookup.{SaysOrPasses, IsMade, is_name, are_names}
 
 -- ---- what definitions make of a name

@@ -11,7 +11,7 @@ use Rattle.fv_eval_scopes.specs.Ways.{PassesBy}
 use Rattle.fv_eval_choosing.specs.declared.around.TheConstants.{NAME_BITS}
 use Rattle.fv_eval_choosing.specs.declared.around.Nested.{Nested}
 use Rattle.fv_eval_choosing.specs.declared.around.Around.{Around}
-use Rattle.fv_eval_choosing.specs.Outward.{SkipsBy}
+use Rattle.fv_eval_scopes.specs.Outward.{SkipsBy}
 
 -- a list has no definition of a name
 abbrev pub HasNone : Parsed → (list name : ℕ) → Type 0

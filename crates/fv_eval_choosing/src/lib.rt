@@ -9,9 +9,7 @@ mod lookup;
 mod paths;
 mod positions;
 mod shortcuts;
-mod slots;
 mod wants;
 
 pub use lookup::Definitions;
 pub use shortcuts::Shortcuts;
-pub use slots::Shortcut;

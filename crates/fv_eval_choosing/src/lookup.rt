@@ -13,7 +13,7 @@ ghost use Rattle.fv_eval_scopes.specs.declared.value.Ruled.TheVariants.{Definiti
 ghost use Rattle.fv_eval_scopes.specs.Shows.{World, IsInside, IsNamed, ShowsEnv, ShowsMeaning, rules_in};
 ghost use Rattle.fv_eval_choosing.specs.Leaving.{IsIndex};
 ghost use Rattle.fv_eval_choosing.specs.Shortcuts.{AreShortcuts};
-ghost use Rattle.fv_eval_choosing.specs.Outward.{SkipsTo, outer};
+ghost use Rattle.fv_eval_scopes.specs.Outward.{SkipsTo, outer};
 ghost use Rattle.fv_eval_choosing.specs.inner.Lookup.{SaysOrPasses, IsMade, is_name, are_names};
 
 use crate::around::Around;

@@ -6,7 +6,7 @@ ghost use Rattle.fv_eval_scopes.specs.declared.value.Scope.{Scope as AScope};
 ghost use Rattle.fv_eval_choosing.specs.Shortcuts.{AreShortcuts};
 
 use crate::around::Around;
-use crate::slots::Slots;
+use fv_eval_scopes::Slots;
 use std::alloc::Global;
 
 /// What is remembered of ways outward: those that look-ups have gone, and which list of definitions around an environment

@@ -1,7 +1,7 @@
 use Rattle.std.proofs.Common.{arith, sym, subst}
 use Rattle.fv_eval_scopes.specs.declared.value.Meaning.TheVariants as meaning
 use Rattle.fv_eval_choosing.specs.declared.shortcuts.Shortcuts.{Shortcuts}
-use Rattle.fv_eval_choosing.specs.Outward.{SkipsTo}
+use Rattle.fv_eval_scopes.specs.Outward.{SkipsTo}
 use Rattle.fv_eval_choosing.proofs.Lookups.{look_finds, look_stops, look_ends}
 use Rattle.fv_eval_choosing.proofs.lemmas.Skipped.{look_begins_here, skips_one, skips_reach, under_way_on}
 use Rattle.fv_eval_choosing.proofs.lookup.Definitions.look_up.Goals as goal

@@ -1,7 +1,7 @@
 use Rattle.std.proofs.Common.{◌∙◌, List, sym, ap}
 use Rattle.std.specs.Prelude.{slice_get}
 use Rattle.std.proofs.lemmas.Option.{none-some}
-use Rattle.fv_eval_choosing.specs.declared.slots.Shortcut.{Shortcut}
+use Rattle.fv_eval_scopes.specs.declared.slots.Shortcut.{Shortcut}
 use Rattle.fv_eval_choosing.proofs.shortcuts.Shortcuts.new.Goals as goal
 
 pub returns : goal.returns
