@@ -2,6 +2,7 @@ pub mod headline
 pub mod Blocks
 pub mod Plans
 pub mod Render
+pub mod Sources
 pub mod Stops
 pub mod SideBySide
 pub mod Examples

@@ -1,16 +1,11 @@
 -- What calls say beside `headline/Render`: a diagram that is played in blocks, by a graph of it (this project's profile).
-use Rattle.std.specs.Prelude.{◌≡◌, ℕ, ◌≤◌, List, length, All, Option}
-use Rattle.std.specs.List.{AllByRecursion}
+use Rattle.std.specs.Prelude.{◌≡◌, ℕ, ◌≤◌, List, length, Option}
 use Rattle.fv_base.specs.declared.limits.TheConstants.{MOST_BLOCK, MOST_CHANNELS, MOST_VECTORS}
 use Rattle.fv_outside.specs.headline.Journal.{Told}
 use Rattle.fv_diagram.specs.headline.Diagram.{Diagram, inputs, outputs}
-use Rattle.fv_diagram.specs.Diagram.{control_bound, IsWellFormed, HasNoFreeSlot}
+use Rattle.fv_diagram.specs.Diagram.{control_bound}
 use Rattle.fv_diagram.specs.declared.control.ControlInfo.{ControlInfo}
 use Rattle.fv_control.specs.declared.script.Change.{Change}
-use Rattle.fv_control.specs.Laws.{NeverFall, IsOfControls}
-use Rattle.fv_diagram.specs.Controls.{IsBounded}
-use Rattle.fv_interval.specs.headline.Delays.{delays_of}
-use Rattle.fv_interval.specs.Delays.{AreAccepted}
 use Rattle.fv_interval.specs.headline.Controls.{spans_of}
 use Rattle.fv_signal.specs.headline.Value.{Graph}
 use Rattle.fv_engine.specs.Block.{vectors_of}
@@ -19,18 +14,12 @@ use Rattle.fv_engine_render.specs.declared.blocks.RunSizes.{RunSizes}
 use Rattle.fv_engine_render.specs.declared.blocks.Ran.{Ran}
 use Rattle.fv_engine_render.specs.headline.Render.{RanTo}
 
--- A diagram that can be played in blocks: it has an output, its controls begin within their bounds and stay there under the
--- script, whose frames never fall, and these are its delays, none of which is refused.
-pub record CanRender (d : Diagram) (controls : List ControlInfo) (delays : List ℕ) (changes : List Change) : Type 0 where
-  pub well : IsWellFormed d
-  pub closed : HasNoFreeSlot d
+-- A diagram that can be played in blocks: it has an output, a file may have as many channels as it has inputs, and all its controls are
+-- there.
+pub record CanRender (d : Diagram) (controls : List ControlInfo) : Type 0 where
   pub some : 1 ≤ outputs d
   pub few : inputs d ≤ MOST_CHANNELS
   pub reads : control_bound d ≤ length controls
-  pub bounded : All IsBounded controls
-  pub accepted : AreAccepted (delays_of d (spans_of controls)) delays
-  pub order : NeverFall 0 changes
-  pub lawful : AllByRecursion (IsOfControls controls) changes
 
 -- A graph of a diagram that can be played, with so many inputs and these controls: the diagram has an output, and all its controls
 -- are there.

@@ -1,13 +1,9 @@
 // What is rendered: a diagram, and its graph.
 
-ghost use Rattle.std.specs.Prelude.{◌<◌, All, IfOk};
-ghost use Rattle.fv_diagram.specs.Arena.{count_of, tree_of};
-ghost use Rattle.fv_diagram.specs.Controls.{IsBounded};
-ghost use Rattle.fv_diagram.specs.Diagram.{IsWellFormed, HasNoFreeSlot};
+ghost use Rattle.std.specs.Prelude.{IfOk};
 ghost use Rattle.fv_interval.specs.headline.Controls.{spans_of};
-ghost use Rattle.fv_interval.specs.headline.Delays.{delays_of};
-ghost use Rattle.fv_interval.specs.Delays.{AreAccepted};
 ghost use Rattle.fv_engine_render.specs.headline.Plans.{IsGraphOf};
+ghost use Rattle.fv_engine_render.specs.Sources.{diagram_in};
 
 use crate::controls::spans_fit;
 use fv_diagram::{ControlInfo, DiagramId, Diagrams};
@@ -16,9 +12,11 @@ use fv_propagate::propagate;
 use fv_signal::Graph;
 use fv_simplify::simplify;
 use std::alloc::{AllocError, Global};
+use std::marker::Model;
 
-/// What is played: a diagram, its delays as `spans` answers them, and its controls.
-#[derive(Clone, Copy)]
+/// What is played: a diagram in which each slot is bound, its delays as `spans` answers them, and its controls, each of which begins
+/// between its bounds.
+#[derive(Drop)]
 pub struct Source<'d, 'e, 'c> {
     pub diagrams: &'d Diagrams,
     pub root: DiagramId,
@@ -26,14 +24,19 @@ pub struct Source<'d, 'e, 'c> {
     pub controls: &'c [ControlInfo],
 }
 
+impl<'d, 'e, 'c> Model for Source<'d, 'e, 'c> {
+    ghost use Rattle.fv_engine_render.specs.Sources.{SourceView, IsSource};
+
+    ghost Value = { SourceView };
+
+    ghost view = { λ s. record { diagrams = s.diagrams.now; root = s.root; controls = s.controls.now; delays = s.delays.now } };
+
+    ghost invariant = { λ s. IsSource (record { diagrams = s.diagrams.now; root = s.root; controls = s.controls.now; delays = s.delays.now }) };
+}
+
 /// The graph of a diagram, made simpler.
 pub fn compile(alloc: Global, source: &Source<'_, '_, '_>) -> Result<Graph, AllocError>
-    requires root { source.now.root < count_of source.now.diagrams.now }
-    requires well { IsWellFormed (tree_of source.now.diagrams.now source.now.root) }
-    requires closed { HasNoFreeSlot (tree_of source.now.diagrams.now source.now.root) }
-    requires bounded { All IsBounded source.now.controls.now }
-    requires accepted { AreAccepted (delays_of (tree_of source.now.diagrams.now source.now.root) (spans_of source.now.controls.now)) source.now.delays.now }
-    ensures { IfOk result (IsGraphOf (tree_of source.now.diagrams.now source.now.root) (spans_of source.now.controls.now)) }
+    ensures { IfOk result (IsGraphOf (diagram_in source.now) (spans_of source.now.controls)) }
 {
     spans_fit(source.controls);
     let whole = propagate(alloc, source.diagrams, source.root, source.delays)?;

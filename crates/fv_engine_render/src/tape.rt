@@ -2,7 +2,6 @@
 
 ghost use Rattle.std.specs.Prelude.{◌≡◌, ◌*◌, ◌<◌, ◌≤◌, ℕ, ℤ, List, length, All, OnOk, IfOk, IfErr};
 ghost use Rattle.std.specs.List.{AllByRecursion};
-ghost use Rattle.fv_diagram.specs.Arena.{count_of, tree_of};
 ghost use Rattle.fv_diagram.specs.Controls.{IsBounded};
 ghost use Rattle.fv_diagram.specs.headline.Diagram.{Diagram, inputs};
 ghost use Rattle.fv_diagram.specs.headline.Samples.{answer_on};
@@ -11,6 +10,7 @@ ghost use Rattle.fv_control.specs.headline.Streams.{control_streams};
 ghost use Rattle.fv_tape.specs.Acts.{Act};
 ghost use Rattle.fv_engine_render.specs.headline.Render.{initial_of};
 ghost use Rattle.fv_engine_render.specs.Render.{CanRender, CanBePlayed, CanHave, RanWhole};
+ghost use Rattle.fv_engine_render.specs.Sources.{diagram_in};
 ghost use Rattle.fv_engine_render.specs.Stops.{HasEnded, IsSetFor, IsSetToPlay};
 
 use crate::blocks::{PlanSizes, Ran, RunSizes};
@@ -53,13 +53,11 @@ pub struct Played<'c> {
 pub fn make_ready(
     alloc: Global,
     source: &Source<'_, '_, '_>,
-    changes: &[Change],
     sizes: &RunSizes,
 ) -> Result<Ready, AllocError>
-    requires root { source.now.root < count_of source.now.diagrams.now }
-    requires source { CanRender (tree_of source.now.diagrams.now source.now.root) source.now.controls.now source.now.delays.now changes.now }
+    requires source { CanRender (diagram_in source.now) source.now.controls }
     requires sizes { CanHave sizes.now }
-    ensures { IfOk result (λ r. IsSetFor (tree_of source.now.diagrams.now source.now.root) source.now.controls.now sizes.now r) }
+    ensures { IfOk result (λ r. IsSetFor (diagram_in source.now) source.now.controls sizes.now r) }
 {
     let inputs = source.diagrams.arity(source.root).inputs;
     let graph = compile(alloc, source)?;

@@ -1,8 +1,9 @@
 // Programs that are played.
 
-ghost use Rattle.std.specs.Prelude.{◌^◌, ◌<◌, IfOk, length};
+ghost use Rattle.std.specs.Prelude.{◌≡◌, ◌^◌, ◌<◌, IfOk, length};
 ghost use Rattle.std.specs.List.{AllByRecursion};
 ghost use Rattle.fv_control.specs.Laws.{NeverFall, IsOfControls};
+ghost use Rattle.fv_engine_render.specs.Render.{CanHave};
 
 use crate::memory::{Memory, MemoryTape};
 use fv_control::{Script, scripts_are_lawful};
@@ -70,6 +71,26 @@ pub(crate) fn rendered<R: Threads + Wait + Sync, G: Gate + Sync>(
     rendered_by(rt, alloc, case, block, vector, 1, gate)
 }
 
+// The sizes of a run, if there may be such.
+fn sizes_of(frames: u32, block: u32, vector: u32, workers: u32) -> Result<RunSizes, Fail>
+    ensures can { IfOk result CanHave }
+    ensures frames { IfOk result (λ s. s.frames ≡ frames) }
+    ensures block { IfOk result (λ s. s.block ≡ block) }
+{
+    if block == 0 || block > 4096 || vector == 0 || block.div_ceil(vector) > 64 {
+        return Err("sizes".into());
+    }
+    if workers == 0 || workers > 16 {
+        return Err("workers".into());
+    }
+    Ok(RunSizes {
+        frames,
+        block,
+        vector,
+        workers,
+    })
+}
+
 /// What a run in blocks by so many workers gives.
 pub(crate) fn rendered_by<R: Threads + Wait + Sync, G: Gate + Sync>(
     rt: &R,
@@ -90,12 +111,7 @@ pub(crate) fn rendered_by<R: Threads + Wait + Sync, G: Gate + Sync>(
     if case.input.len() != case.frames as usize * arity.inputs as usize {
         return Err("input".into());
     }
-    if block == 0 || block > 4096 || vector == 0 || block.div_ceil(vector) > 64 {
-        return Err("sizes".into());
-    }
-    if workers == 0 || workers > 16 {
-        return Err("workers".into());
-    }
+    let sizes = sizes_of(case.frames, block, vector, workers)?;
     let bounds = spans_of(alloc, controls)?;
     let Ok(delays) = spans(alloc, &program.diagrams, program.root, &bounds) else {
         return Err("delays".into());
@@ -106,13 +122,7 @@ pub(crate) fn rendered_by<R: Threads + Wait + Sync, G: Gate + Sync>(
         delays: &delays,
         controls,
     };
-    let sizes = RunSizes {
-        frames: case.frames,
-        block,
-        vector,
-        workers,
-    };
-    let ready = make_ready(alloc, &source, script.changes(), &sizes)?;
+    let ready = make_ready(alloc, &source, &sizes)?;
     let played = Played {
         inputs: arity.inputs,
         outputs: arity.outputs,
