@@ -12,7 +12,7 @@ use Rattle.fv_lines.specs.declared.shape.LaneShape.{LaneShape}
 use Rattle.fv_loopcode.specs.headline.State.{list_at}
 use Rattle.fv_split_plan.specs.headline.View.{PlanView, lane_info, cells_info}
 use Rattle.fv_split_plan.specs.Rows.{lists_of}
-use Rattle.fv_engine_tasks.specs.Jobs.{RegistersFit, RowsFit}
+use Rattle.fv_engine_tasks.specs.Jobs.{HaveScratch}
 use Rattle.fv_engine_crew.specs.Contents.{parts_of}
 use Rattle.fv_engine.specs.Past.{past}
 use Rattle.fv_engine.specs.declared.lanes.Lanes.{Lanes}
@@ -47,5 +47,4 @@ pub record AreLanes (p : PlanView) (block : ℕ) (lanes : Lanes) : Type 0 where
 -- what runs the tasks of a plan, for so many vectors
 pub record IsRunner (p : PlanView) (most : ℕ) (r : TaskRunner) : Type 0 where
   pub tasks_are : AreTasksOf p most r.tasks
-  pub registers : RegistersFit (parts_of p) (length r.regs.items)
-  pub rows : RowsFit (parts_of p) (length r.rows.items)
+  pub scratch : HaveScratch (parts_of p) r.scratch.items

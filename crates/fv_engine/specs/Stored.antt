@@ -7,7 +7,7 @@ use Rattle.fv_lines.specs.declared.shape.LaneState.{LaneState}
 use Rattle.fv_split_plan.specs.headline.View.{PlanView, code_of}
 use Rattle.fv_split_plan.specs.Rows.{lists_of}
 use Rattle.fv_engine_tasks.specs.headline.Block.{vectors_of}
-use Rattle.fv_engine_tasks.specs.Jobs.{RegistersFit, RowsFit}
+use Rattle.fv_engine_tasks.specs.Jobs.{HaveScratch}
 use Rattle.fv_engine_crew.specs.Contents.{parts_of}
 use Rattle.fv_engine.specs.Stands.{EngineView, Standing}
 use Rattle.fv_engine.specs.Crews.{IsCrewOf}
@@ -45,8 +45,7 @@ pub record IsStored (e : Inside) : Type 0 where
   pub shapes : AreShapes e.plan e.sizes.block e.lanes.shapes.items
   pub lists : length e.lanes.lists.items ≡ length e.plan.cells
   pub tasks_are : AreTasksOf e.plan (vectors_of e.sizes.block e.sizes.vector) e.runner.tasks
-  pub registers : RegistersFit (parts_of e.plan) (length e.runner.regs.items)
-  pub rows : RowsFit (parts_of e.plan) (length e.runner.rows.items)
+  pub scratch : HaveScratch (parts_of e.plan) e.runner.scratch.items
   pub held_long : length e.held.items ≡ length e.plan.held
   pub crew : IfSome e.crew (λ c. IsCrewOf e.plan e.runner.tasks.tasks c)
   pub some_worker : 1 ≤ e.sizes.workers

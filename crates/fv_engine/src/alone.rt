@@ -3,7 +3,7 @@
 ghost use Rattle.std.specs.Prelude.{◌≡◌, ℕ, ◌+◌, ◌*◌, ◌<◌, length, [], All, slice_index_or, pos};
 ghost use Rattle.fv_outside.specs.declared.gate.Line.{Line};
 ghost use Rattle.fv_engine_tasks.specs.Block.{IsReal};
-ghost use Rattle.fv_engine_tasks.specs.Jobs.{IsJob, block_of, RegistersFit, RowsFit};
+ghost use Rattle.fv_engine_tasks.specs.Jobs.{IsJob, block_of, HaveScratch};
 ghost use Rattle.fv_engine_tasks.specs.Underway.{EndsBlock};
 ghost use Rattle.fv_engine_tasks.specs.Outputs.{sample_of};
 ghost use Rattle.fv_engine.specs.inner.Kept.{state_of};
@@ -32,8 +32,7 @@ pub(crate) fn alone<P: Codes, L: LaneStore, G: Gate>(
     requires lists { length lists.old ≡ (P.parts job.now.plan.now).cells }
     requires job { IsJob (block_of P.parts job.now) runner.old.tasks.tasks }
     requires real { IsReal (block_of P.parts job.now) (state_of plan.now (L.lanes lanes.old) lists.old) }
-    requires rows { RowsFit (P.parts job.now.plan.now) (length runner.old.rows.items) }
-    requires regs { RegistersFit (P.parts job.now.plan.now) (length runner.old.regs.items) }
+    requires scratch { HaveScratch (P.parts job.now.plan.now) runner.old.scratch.items }
     requires lines { runner.old.lines.items ≡ [] }
     requires there { All (λ l. l < (P.parts job.now.plan.now).lanes) plan.now.outputs }
     requires output { length output.old ≡ job.now.frames * length plan.now.outputs }
@@ -44,7 +43,7 @@ pub(crate) fn alone<P: Codes, L: LaneStore, G: Gate>(
     ensures kept { L.rest lanes.new ≡ L.rest lanes.old }
     ensures samples { (t j : ℕ) → t < job.now.frames → j < length plan.now.outputs
         → slice_index_or output.new (t * length plan.now.outputs + j) (pos 0) ≡ sample_of (L.lanes lanes.new) t (slice_index_or plan.now.outputs j 0) }
-    ensures runner { IsSameRunner runner.old runner.new }
+    ensures runner { IsSameRunner (P.parts job.now.plan.now) runner.old runner.new }
 {
     runner.begin();
     let mut kept = Kept { plan, lanes, lists };
@@ -52,8 +51,7 @@ pub(crate) fn alone<P: Codes, L: LaneStore, G: Gate>(
         job,
         &runner.tasks,
         &mut runner.core,
-        &mut runner.rows,
-        &mut runner.regs,
+        &mut runner.scratch,
         &mut runner.lines,
         &mut kept,
         gate,

@@ -61,7 +61,7 @@ impl Lanes {
         // By no more workers than there are.
         ensures who { (n : ℕ) → 1 ≤ n → IfSome crew.now (λ c. c.workers ≡ n) → All (λ (line : Line). line.worker < n) runner.new.lines.items }
         ensures lanes { AreSameLanes self.old self.new }
-        ensures runner { IsSameRunner runner.old runner.new }
+        ensures runner { IsSameRunner (parts_of job.now.plan.now.plan.now) runner.old runner.new }
     {
         let spread = self.run_spread(rt, alloc, job, crew, runner, output, gate);
         if spread {
@@ -93,7 +93,7 @@ impl Lanes {
             opening_of tables self.new job.now.frames ≡ opening_of tables self.old job.now.frames }
         ensures untold { result ≡ false → runner.new.lines.items ≡ [] }
         ensures lanes { AreSameLanes self.old self.new }
-        ensures runner { IsSameRunner runner.old runner.new }
+        ensures runner { IsSameRunner (parts_of job.now.plan.now.plan.now) runner.old runner.new }
     {
         let Some(crew) = crew else {
             return false;
@@ -144,7 +144,7 @@ impl Lanes {
             plan.now.outputs output.new }
         ensures who { All (λ (line : Line). line.worker ≡ 0) runner.new.lines.items }
         ensures lanes { AreSameLanes self.old self.new }
-        ensures runner { IsSameRunner runner.old runner.new }
+        ensures runner { IsSameRunner (P.parts job.now.plan.now) runner.old runner.new }
     {
         over(
             job,

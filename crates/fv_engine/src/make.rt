@@ -6,7 +6,7 @@ ghost use Rattle.fv_lines.specs.declared.shape.LaneShape.{LaneShape as Shape};
 ghost use Rattle.fv_split_plan.specs.headline.View.{lane_info, cells_info};
 ghost use Rattle.fv_split_plan.specs.Rows.{lists_of};
 ghost use Rattle.fv_engine_tasks.specs.headline.Block.{vectors_of};
-ghost use Rattle.fv_engine_tasks.specs.Jobs.{RegistersFit};
+ghost use Rattle.fv_engine_tasks.specs.Jobs.{HaveScratch};
 ghost use Rattle.fv_engine_crew.specs.Contents.{parts_of};
 ghost use Rattle.fv_engine.specs.Made.{AreShapes, AreLanes, BeginAsTables, IsRunner};
 
@@ -15,7 +15,7 @@ use crate::runner::TaskRunner;
 use fv_graph::Tasks;
 use fv_graph_core::Core;
 use fv_lines::{BegunLane, LaneShape, LaneState};
-use fv_loopcode_machine::blank_rows;
+use fv_loopcode_machine::Scratch;
 use fv_pool::{Layout, Region};
 use fv_split_plan::Plan;
 use std::alloc::{AllocError, Global};
@@ -69,15 +69,16 @@ pub(crate) fn can_be_had(lengths: &[u64]) -> bool
     true
 }
 
-/// The number of steps of the longest code.
-pub(crate) fn most_steps(plan: &Plan) -> u64
-    ensures { RegistersFit (parts_of plan.now) result }
+/// Scratch for each loop's code.
+pub(crate) fn scratch_of(alloc: Global, plan: &Plan) -> Result<Vec<Scratch>, AllocError>
+    ensures { IfOk result (λ v. HaveScratch (parts_of plan.now) v.items) }
 {
-    let mut most = 0;
+    let mut scratch = Vec::new(alloc);
     for j in 0..plan.loops() {
-        most = plan.code(j).len().max(most);
+        let one = Scratch::new(alloc, plan.code(j).len())?;
+        scratch.push(one)?;
     }
-    most
+    Ok(scratch)
 }
 
 /// The lists of a plan's cells, each as its table has it.
@@ -130,16 +131,13 @@ pub(crate) fn runner_for(alloc: Global, plan: &Plan, most: u32) -> Result<TaskRu
 {
     let tasks = Tasks::new(alloc, plan.loops(), most, plan.reads())?;
     let core = Core::new(alloc, &tasks, 1)?;
-    let steps = most_steps(plan);
-    let rows = blank_rows(alloc, steps)?;
-    let regs = Vec::from_elem(alloc, 0, steps as usize)?;
+    let scratch = scratch_of(alloc, plan)?;
     let kept = Vec::new(alloc);
     let lines = Vec::with_capacity(alloc, tasks.len() as usize)?;
     Ok(TaskRunner {
         tasks,
         core,
-        rows,
-        regs,
+        scratch,
         kept,
         lines,
     })

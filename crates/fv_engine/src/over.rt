@@ -4,7 +4,7 @@ ghost use Rattle.std.specs.Prelude.{◌≡◌, ℕ, ◌*◌, ◌<◌, length, []
 ghost use Rattle.fv_outside.specs.declared.gate.Line.{Line};
 ghost use Rattle.fv_lines.specs.Solo.{AreLists, AreHeld, AreFramed};
 ghost use Rattle.fv_engine_tasks.specs.Block.{IsReal};
-ghost use Rattle.fv_engine_tasks.specs.Jobs.{IsJob, block_of, RegistersFit, RowsFit};
+ghost use Rattle.fv_engine_tasks.specs.Jobs.{IsJob, block_of, HaveScratch};
 ghost use Rattle.fv_engine_crew.specs.Ran.{Ran};
 ghost use Rattle.fv_engine.specs.inner.Opening.{opening_over, IsSameRunner};
 
@@ -39,8 +39,7 @@ pub(crate) fn over<P: Codes, G: Gate>(
     requires job { IsJob (block_of P.parts job.now) runner.old.tasks.tasks }
     requires real { IsReal (block_of P.parts job.now)
         (opening_over plan.now.tables layout.now shapes.now states.old job.now.frames cells.old lists.old) }
-    requires rows { RowsFit (P.parts job.now.plan.now) (length runner.old.rows.items) }
-    requires regs { RegistersFit (P.parts job.now.plan.now) (length runner.old.regs.items) }
+    requires scratch { HaveScratch (P.parts job.now.plan.now) runner.old.scratch.items }
     requires lines { runner.old.lines.items ≡ [] }
     requires there { All (λ l. l < (P.parts job.now.plan.now).lanes) plan.now.outputs }
     requires output { length output.old ≡ job.now.frames * length plan.now.outputs }
@@ -50,7 +49,7 @@ pub(crate) fn over<P: Codes, G: Gate>(
     ensures who { All (λ (line : Line). line.worker ≡ 0) runner.new.lines.items }
     ensures lists { AreLists layout.now shapes.now states.new begun.new cells.new }
     ensures lanes { AreHeld layout.now shapes.now states.new }
-    ensures runner { IsSameRunner runner.old runner.new }
+    ensures runner { IsSameRunner (P.parts job.now.plan.now) runner.old runner.new }
 {
     let mut solo = Solo::begin(cells, layout, shapes, states, begun, job.frames);
     alone(job, plan, &mut solo, lists, runner, output, gate);

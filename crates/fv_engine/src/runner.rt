@@ -4,19 +4,18 @@ ghost use Rattle.std.specs.Prelude.{◌≤◌, vec_capacity};
 ghost use Rattle.fv_outside.specs.Tasks.{task_count};
 ghost use Rattle.fv_engine.specs.Cores.{HasCore};
 
-use fv_engine_spread::Scratch;
 use fv_graph::Tasks;
 use fv_graph_core::Core;
+use fv_loopcode_machine::{Scratch, unsettle};
 use fv_outside::Line;
 
-/// What runs the tasks: the tasks of the block, the core for one worker, the rows and registers that its codes work in, those that several
+/// What runs the tasks: the tasks of the block, the core for one worker, the scratch that each loop's code works in, that which several
 /// workers keep from block to block, and the block's journal.
 #[derive(Drop)]
 pub(crate) struct TaskRunner {
     pub(crate) tasks: Tasks,
     pub(crate) core: Core,
-    pub(crate) rows: Vec<i32>,
-    pub(crate) regs: Vec<i32>,
+    pub(crate) scratch: Vec<Scratch>,
     pub(crate) kept: Vec<Scratch>,
     pub(crate) lines: Vec<Line>,
     ghost core_is: { HasCore tasks core },
@@ -27,6 +26,7 @@ impl TaskRunner {
     ghost use Rattle.std.specs.Prelude.{◌≡◌, ◌<◌, [], length};
     ghost use Rattle.fv_graph.specs.Graph.{net_of};
     ghost use Rattle.fv_graph_core.specs.Core.{opening};
+    ghost use Rattle.fv_loopcode_machine.specs.Scratches.{AreUnsettled};
 
     /// The tasks are those of so many vectors from now on, and no line is written of them.
     pub(crate) fn set_vectors(&mut self, vectors: u32)
@@ -34,26 +34,25 @@ impl TaskRunner {
         requires room { vectors ≤ self.old.tasks.most }
         ensures tasks { self.new.tasks ≡ record self.old.tasks { tasks = record self.old.tasks.tasks { vectors = vectors } } }
         ensures lines { self.new.lines.items ≡ [] }
-        ensures rows { self.new.rows ≡ self.old.rows }
-        ensures regs { self.new.regs ≡ self.old.regs }
+        ensures scratch { self.new.scratch ≡ self.old.scratch }
     {
         self.tasks.set_vectors(vectors);
         self.lines.clear();
     }
 
-    /// The core is about to run the tasks from the first on.
+    /// The core is about to run the tasks from the first on, and no scratch is settled.
     pub(crate) fn begin(&mut self)
         ensures tasks { self.new.tasks ≡ self.old.tasks }
         ensures same { self.new.core.tasks ≡ self.new.tasks.tasks }
         ensures one { self.new.core.workers ≡ 1 }
         ensures opening { self.new.core.now ≡ opening (net_of self.new.tasks.tasks) 1 }
-        ensures rows { self.new.rows ≡ self.old.rows }
-        ensures regs { self.new.regs ≡ self.old.regs }
+        ensures scratch { AreUnsettled self.old.scratch.items self.new.scratch.items }
         ensures lines { self.new.lines ≡ self.old.lines }
         ensures room { task_count self.new.tasks.tasks ≤ vec_capacity self.new.lines }
     {
         // Called for its clause: there are no more vectors than the core has room for.
         let _vectors = self.tasks.vectors();
         self.core.reset(&self.tasks);
+        unsettle(&mut self.scratch);
     }
 }

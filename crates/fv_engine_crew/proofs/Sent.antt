@@ -26,7 +26,9 @@ use Rattle.fv_loopcode_rows.specs.contracts.operation.Operation as operation
 use Rattle.fv_split_components.specs.contracts.packed.Rows as rows
 use Rattle.fv_loopcode_machine.specs.contracts.cycles.Cycle as cycle
 use Rattle.fv_loopcode_machine.specs.contracts.cycles.Cycles as cycles
+use Rattle.fv_loopcode_machine.specs.contracts.places.Visit as visit
 use Rattle.fv_loopcode_machine.specs.contracts.schedule.Schedule as schedule
+use Rattle.fv_loopcode_machine.specs.contracts.scratch.Scratch as scratch
 use Rattle.fv_loopcode_machine.specs.contracts.code.Code as code
 use Rattle.fv_loopcode_machine.specs.contracts.code.Code.TheInside as inside
 use Rattle.fv_lines.specs.contracts.row.Row as row
@@ -159,6 +161,9 @@ cycle_action_sync = enum_sync (E.shape cycle_action.the_type) ((
 rows_sync : IsSync rows.the_row
 rows_sync = search (sendable, crosses) depth 24
 
+visit_sync : IsSync (visit.the_field).row
+visit_sync = enum_sync (E.shape visit.the_type) ((search sendable, tt), (tt, tt))
+
 operation_sync : IsSync (operation.the_field).row
 operation_sync = search (op_sync, sendable) depth 40
 
@@ -171,7 +176,13 @@ cycles_sync = search (cycle_sync, sendable, crosses) depth 24
 schedule_sync : IsSync schedule.the_row
 schedule_sync = declared_sync schedule.the_type (
   search (sendable, crosses) depth 24,
-  (rows_sync, (search (cycle_action_sync, sendable, crosses) depth 24, (search (sendable, crosses) depth 24, (cycles_sync, tt)))),
+  (
+    rows_sync,
+    (
+      search (visit_sync, sendable, crosses) depth 24,
+      (search (cycle_action_sync, sendable, crosses) depth 24, (search (sendable, crosses) depth 24, (cycles_sync, tt))),
+    ),
+  ),
 )
 
 inside_sync : IsSync inside.the_row
@@ -187,9 +198,15 @@ lanes_send : (a b : NamedLft) → IsSend (lanes.the_row a b)
 lanes_send a b = declared_send (lanes.the_type a b)
     (search (writer_send, sendable, crosses) depth 24, (search (seen_send, sendable, crosses) depth 24, (loop_cells_send b, tt)))
 
+scratch_send : IsSend scratch.the_row
+scratch_send = declared_send scratch.the_type (
+  search (sendable, crosses) depth 20,
+  (search (sendable, crosses) depth 20, (search sendable, (search sendable, (search sendable, tt)))),
+)
+
 writers_send : (a b : NamedLft) → IsSend (writers.the_row a b)
 writers_send a b = declared_send (writers.the_type a b)
-    (lanes_send a b, (search (sendable, crosses) depth 20, (search (sendable, crosses) depth 20, (search (seen_send, sendable, crosses) depth 20, tt))))
+    (lanes_send a b, (scratch_send, (search (seen_send, sendable, crosses) depth 20, tt)))
 
 seen_lanes_send : (a : NamedLft) → IsSend (seen_lanes.the_row a)
 seen_lanes_send a = search (seen_send, sendable, crosses) depth 24

@@ -6,8 +6,9 @@ ghost use Rattle.fv_engine_crew.specs.inner.Buffers.{AreEmpty};
 
 use crate::block::SpreadBlock;
 use fv_engine_parcels::{LoopParcel, Writers};
-use fv_engine_spread::{Scratch, take_room};
+use fv_engine_spread::take_room;
 use fv_lines::LaneWriter;
+use fv_loopcode_machine::Scratch;
 use std::alloc::{AllocError, Global};
 
 /// The lists of each loop, and those for the lanes as they begin, for the parcels with which the loops begin, for the lists of the

@@ -12,8 +12,9 @@ ghost use Rattle.fv_engine_crew.specs.inner.Lanes.{AreOpen, AreWhole, AreUntouch
 use crate::block::SpreadBlock;
 use crate::buffers::Buffers;
 use crate::enter::enter;
-use fv_engine_spread::{Scratch, collect};
+use fv_engine_spread::collect;
 use fv_lines::LaneWriter;
+use fv_loopcode_machine::Scratch;
 use fv_outside::{Gate, Line};
 use fv_steal_block::run_crew;
 use std::alloc::Global;
@@ -54,6 +55,7 @@ pub(crate) fn run_begun<'a, 'b, R: Threads + Wait + Sync, G: Gate + Sync>(
         back,
     } = buffers;
     let (body, entries) = enter(block, begun, rooms, entries, &mut *lists);
+    let cells = lists.as_mut_slice();
     match run_crew(
         rt,
         alloc,
@@ -65,27 +67,11 @@ pub(crate) fn run_begun<'a, 'b, R: Threads + Wait + Sync, G: Gate + Sync>(
         gate,
     ) {
         Ok(exits) => {
-            let all = collect(
-                alloc,
-                body.start(),
-                exits,
-                emptied,
-                back,
-                lists.as_mut_slice(),
-                kept,
-            );
+            let all = collect(alloc, body.start(), exits, emptied, back, cells, kept);
             Ok(all)
         }
         Err(entries) => {
-            let all = collect(
-                alloc,
-                body.start(),
-                entries,
-                emptied,
-                back,
-                lists.as_mut_slice(),
-                kept,
-            );
+            let all = collect(alloc, body.start(), entries, emptied, back, cells, kept);
             Err(all)
         }
     }

@@ -11,8 +11,8 @@ ghost use Rattle.fv_engine_crew.specs.Spread.{block_in, tasks_of, IsSpread, MayR
 
 use crate::block::SpreadBlock;
 use crate::lent::{Pack, lent};
-use fv_engine_spread::Scratch;
 use fv_lines::LaneState;
+use fv_loopcode_machine::Scratch;
 use fv_outside::{Gate, Line};
 use std::alloc::Global;
 use std::marker::Sync;

@@ -1,6 +1,7 @@
 -- That code may run, and that a place holds what it is to hold, have at most one proof: so both follow from facts that are known to hold
 -- merely.
-use Rattle.std.proofs.Common.{◌≡◌, ℕ, ◌+◌, ◌-◌, List, [], ◌∷◌, length, ℤ}
+use Rattle.std.proofs.Common.{◌≡◌, ℕ, ◌+◌, ◌-◌, ◌*◌, ◌<◌, List, [], ◌∷◌, length, map, ℤ, pos, sym, subst, ◌∙◌, arith}
+use Rattle.std.proofs.lemmas.List.{get_or-map, length-map}
 use Rattle.std.specs.Prelude.{slice_index}
 use Rattle.std.specs.Coded.{×_prop, Unit-prop, le_prop}
 use Rattle.std.proofs.Math.Logic.{∥∥₁_elim}
@@ -15,7 +16,10 @@ use Rattle.fv_loopcode.specs.Lanes.{HasSample}
 use Rattle.fv_loopcode.specs.headline.State.{State, list_at}
 use Rattle.fv_loopcode.specs.Obeys.{Content, Holds, HoldsJust}
 use Rattle.fv_loopcode.specs.headline.Code.{Pass, stepped, opening, ran}
-use Rattle.fv_loopcode.specs.Code.{MayStep, MayPass, MayRun, frame_of, IsWithin}
+use Rattle.fv_loopcode.specs.Code.{MayStep, MayPass, MayRun, frame_of, IsWithin, Keeps}
+use Rattle.fv_loopcode_rows.specs.Kept.{step_in, cell}
+use Rattle.fv_loopcode_machine.specs.Scratches.{Serves}
+use Rattle.fv_loopcode_machine.specs.declared.scratch.Scratch.{Scratch}
 use Rattle.fv_engine_lanes.specs.Renumbered.{renumbered}
 use Rattle.fv_engine_parcels.specs.Contents.{IsRealStart}
 use Rattle.fv_engine_parcels.specs.inner.Turns.{locals, from, to, Known, Before, After}
@@ -102,3 +106,70 @@ within_renumbered held channels place (step.Load lane back max) w = w
 within_renumbered held channels place (step.Append lane value) w = w
 within_renumbered held channels place (step.Read table arg) w = w
 within_renumbered held channels place (step.Write cells args) w = w
+
+keeps_prop : (held : ℕ → ℤ) (v : ℤ) (s : Step) (x y : Keeps held v s) → x ≡ y
+keeps_prop held v (step.Number n) = ℤ_set v n
+keeps_prop held v (step.Held k) = ℤ_set v (held k)
+keeps_prop held v (step.Input i) = Unit-prop
+keeps_prop held v (step.Point op args) = Unit-prop
+keeps_prop held v (step.Load lane back max) = Unit-prop
+keeps_prop held v (step.Append lane value) = Unit-prop
+keeps_prop held v (step.Read table arg) = Unit-prop
+keeps_prop held v (step.Write cells args) = Unit-prop
+
+pub serves_prop : (steps : List Step) (held : ℕ → ℤ) (s : Scratch) (x y : Serves steps held s) → x ≡ y
+serves_prop steps held s x y = λ i. record {
+  room = record {
+    regs = ℕ_set (length s.regs.items) (length steps) x.room.regs y.room.regs i;
+    rows = ℕ_set (length s.rows.items) (length steps * 32) x.room.rows y.room.rows i;
+    last = le_prop x.room.last y.room.last i;
+  };
+  settled = λ e p l k m. keeps_prop held (cell s.rows.items p k) (step_in steps p) (x.settled e p l k m) (y.settled e p l k m) i;
+}
+
+-- a new number of its lane changes nothing of what a step keeps
+keeps_forth : (held : ℕ → ℤ) (place : ℕ → ℕ) (v : ℤ) (s : Step) → Keeps held v s → Keeps held v (renumbered place s)
+keeps_forth held place v (step.Number n) e = e
+keeps_forth held place v (step.Held k) e = e
+keeps_forth held place v (step.Input i) e = e
+keeps_forth held place v (step.Point op args) e = e
+keeps_forth held place v (step.Load lane back max) e = e
+keeps_forth held place v (step.Append lane value) e = e
+keeps_forth held place v (step.Read table arg) e = e
+keeps_forth held place v (step.Write cells args) e = e
+
+keeps_back : (held : ℕ → ℤ) (place : ℕ → ℕ) (v : ℤ) (s : Step) → Keeps held v (renumbered place s) → Keeps held v s
+keeps_back held place v (step.Number n) e = e
+keeps_back held place v (step.Held k) e = e
+keeps_back held place v (step.Input i) e = e
+keeps_back held place v (step.Point op args) e = e
+keeps_back held place v (step.Load lane back max) e = e
+keeps_back held place v (step.Append lane value) e = e
+keeps_back held place v (step.Read table arg) e = e
+keeps_back held place v (step.Write cells args) e = e
+
+-- so the scratch of a code serves it with new numbers of its lanes, and the other way
+step_there : (place : ℕ → ℕ) (steps : List Step) (p : ℕ) → p < length steps
+    → step_in (map (renumbered place) steps) p ≡ renumbered place (step_in steps p)
+step_there place steps p l = let none = step.Number (pos 0) in get_or-map (renumbered place) steps p none none l
+
+pub serves_renumbered : (place : ℕ → ℕ) (steps : List Step) (held : ℕ → ℤ) (s : Scratch) → Serves steps held s → Serves (map (renumbered place) steps) held s
+serves_renumbered place steps held s h =
+    let long = length-map steps (renumbered place) in
+    record {
+      room = record { regs = h.room.regs ∙ sym long; rows = (let r = h.room.rows in omega (arith, r, long)); last = h.room.last };
+      settled = λ e p l k m.
+          let there : p < length steps = omega (arith, l, long) in
+          subst (Keeps held (cell s.rows.items p k)) (sym (step_there place steps p there))
+          (keeps_forth held place (cell s.rows.items p k) (step_in steps p) (h.settled e p there k m));
+    }
+
+pub serves_as_before : (place : ℕ → ℕ) (steps : List Step) (held : ℕ → ℤ) (s : Scratch) → Serves (map (renumbered place) steps) held s → Serves steps held s
+serves_as_before place steps held s h =
+    let long = length-map steps (renumbered place) in
+    record {
+      room = record { regs = h.room.regs ∙ long; rows = (let r = h.room.rows in omega (arith, r, long)); last = h.room.last };
+      settled = λ e p l k m.
+          keeps_back held place (cell s.rows.items p k) (step_in steps p)
+          (subst (Keeps held (cell s.rows.items p k)) (step_there place steps p l) (h.settled e p (omega (arith, l, long)) k m));
+    }

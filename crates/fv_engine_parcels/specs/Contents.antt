@@ -7,6 +7,8 @@ use Rattle.fv_graph.specs.Graph.{stride, place_in, pair_at}
 use Rattle.fv_loopcode.specs.headline.State.{State, list_at}
 use Rattle.fv_loopcode.specs.Obeys.{Content, Holds, HoldsJust}
 use Rattle.fv_loopcode.specs.Blocks.{before}
+use Rattle.fv_loopcode.specs.Words.{argument}
+use Rattle.fv_loopcode_machine.specs.Scratches.{Serves}
 use Rattle.fv_split_plan.specs.headline.View.{PlanView, lane_info, cells_info, code_of}
 use Rattle.fv_split_plan.specs.Rows.{lists_of}
 use Rattle.fv_split_plan.specs.View.{loops_of}
@@ -125,14 +127,13 @@ pub record AreCellsOf (k : Start) (j v : ℕ) (c : LoopCells) : Type 0 where
       → list_at (cells_of c) i ≡ f.cells i (upto k v)
 
 -- What loop j hands on after v of its vectors, with so many lists more than the readers of its later vectors take: its writers and cells,
--- room for the seen lanes of its sources, a register and a row for each step, and the lists.
+-- room for the seen lanes of its sources, scratch for its code, and the lists.
 pub record AreHandedOn (k : Start) (j v more : ℕ) (w : Writers) : Type 0 where
   pub writers : AreWritersOf k (own_lanes k.plan.now j) v w.lanes.own.items
   pub cells : AreCellsOf k j v w.lanes.cells
   pub nothing_seen : w.lanes.seen.items ≡ []
   pub room : length (lanes_of_all k.plan.now (sources_of (tasks_in k) j)) ≤ vec_capacity w.lanes.seen
-  pub regs : length w.regs.items ≡ length (code_of k.plan.now j)
-  pub rows : length w.rows.items ≡ length (code_of k.plan.now j) * 32
+  pub scratch : ∥ Serves (code_of k.plan.now j) (argument k.held.now) w.scratch ∥₁
   pub lists : ((tasks_in k).vectors - v) * readers_of (tasks_in k) j + more ≤ length w.lists.items
   pub roomy : AreRoomy w.lists.items (list_room (length (own_lanes k.plan.now j)))
 

@@ -2,6 +2,8 @@
 
 ghost use Rattle.std.specs.Prelude.{◌≡◌, ℕ, ◌+◌, ◌-◌, ◌*◌, ◌≤◌, ◌<◌, List, [], length, map, reverse, All, slice_index, slice_index_or, vec_capacity};
 ghost use Rattle.fv_loopcode.specs.Code.{IsWithin};
+ghost use Rattle.fv_loopcode.specs.Words.{argument};
+ghost use Rattle.fv_loopcode_machine.specs.Scratches.{Serves};
 ghost use Rattle.fv_split_plan.specs.headline.View.{code_of};
 ghost use Rattle.fv_lines.specs.Seen.{lane_seen};
 ghost use Rattle.fv_lines.specs.Writer.{lane_written};
@@ -82,13 +84,11 @@ impl<'a, 'b> LoopBody<'a, 'b> {
         requires input { self.now.start.frames * self.now.start.channels ≤ length self.now.start.input.now }
         requires valid { AreLanesValid writers.old.lanes }
         requires before { Before self.now.start task.loop_no task.vector (state_in writers.old.lanes) }
-        requires rows { length (slice_index_or self.now.codes.now task.loop_no []) * 32 ≤ length writers.old.rows.items }
-        requires regs { length writers.old.regs.items ≡ length (slice_index_or self.now.codes.now task.loop_no []) }
+        requires scratch { Serves (slice_index_or self.now.codes.now task.loop_no []) (argument self.now.start.held.now) writers.old.scratch }
         ensures after { After self.now.start task.loop_no task.vector (state_in writers.new.lanes) }
         ensures valid { AreLanesValid writers.new.lanes }
         ensures kept { rest_in writers.new.lanes ≡ rest_in writers.old.lanes }
-        ensures rows { length writers.new.rows.items ≡ length writers.old.rows.items }
-        ensures regs { length writers.new.regs.items ≡ length writers.old.regs.items }
+        ensures scratch { Serves (slice_index_or self.now.codes.now task.loop_no []) (argument self.now.start.held.now) writers.new.scratch }
         ensures lists { writers.new.lists ≡ writers.old.lists }
     {
         tasks_are_done();
@@ -103,8 +103,7 @@ impl<'a, 'b> LoopBody<'a, 'b> {
             self.start.channels,
             from,
             count,
-            &mut writers.rows,
-            &mut writers.regs,
+            &mut writers.scratch,
             &mut writers.lanes,
         );
     }

@@ -5,14 +5,14 @@ ghost use Rattle.fv_engine_parcels.specs.Contents.{lanes_seen};
 
 use fv_engine_lanes::LoopLanes;
 use fv_lines::Seen;
+use fv_loopcode_machine::Scratch;
 
-/// What a loop's task hands to the loop's next task: its lane writers and cells, its registers, the rows that its code works in, and,
-/// still empty, a list for each seen parcel that is to come, which has room only where more than two lanes go into it.
+/// What a loop's task hands to the loop's next task: its lane writers and cells, the scratch that its code works in, and, still empty, a
+/// list for each seen parcel that is to come, which has room only where more than two lanes go into it.
 #[derive(Drop)]
 pub struct Writers<'a, 'b> {
     pub lanes: LoopLanes<'a, 'b>,
-    pub regs: Vec<i32>,
-    pub rows: Vec<i32>,
+    pub scratch: Scratch,
     pub lists: Vec<Vec<Seen<'a>>>,
 }
 

@@ -14,7 +14,7 @@ use Rattle.fv_engine_parcels.specs.declared.content.Writers.{Writers}
 use Rattle.fv_engine_spread.specs.Swapped.{SameButCells, AreSwapped, cells_in, slot}
 
 same_self : (w : Writers) → SameButCells w w
-same_self w = record { own = refl; seen = refl; plan = refl; places = refl; loop_no = refl; count = refl; regs = refl; rows = refl; lists = refl }
+same_self w = record { own = refl; seen = refl; plan = refl; places = refl; loop_no = refl; count = refl; scratch = refl; lists = refl }
 
 same_then : (u v w : Writers) → SameButCells u v → SameButCells v w → SameButCells u w
 same_then u v w a b = record {
@@ -24,8 +24,7 @@ same_then u v w a b = record {
   places = b.places ∙ a.places;
   loop_no = b.loop_no ∙ a.loop_no;
   count = b.count ∙ a.count;
-  regs = b.regs ∙ a.regs;
-  rows = b.rows ∙ a.rows;
+  scratch = b.scratch ∙ a.scratch;
   lists = b.lists ∙ a.lists;
 }
 

@@ -20,8 +20,7 @@ pub record IsDealtSoFar (p : PlanView) (all : List LaneWriter) (n j : ℕ) (old 
   pub room : length (own_lanes p j) ≤ vec_capacity new.lanes.own
   pub seen : new.lanes.seen ≡ old.lanes.seen
   pub cells : new.lanes.cells ≡ old.lanes.cells
-  pub regs : new.regs ≡ old.regs
-  pub rows : new.rows ≡ old.rows
+  pub scratch : new.scratch ≡ old.scratch
   pub lists : new.lists ≡ old.lists
 
 -- so it is with each loop
@@ -34,14 +33,13 @@ pub record HasOneMore (w : LaneWriter) (old new : Writers) : Type 0 where
   pub room : vec_capacity new.lanes.own ≡ vec_capacity old.lanes.own
   pub seen : new.lanes.seen ≡ old.lanes.seen
   pub cells : new.lanes.cells ≡ old.lanes.cells
-  pub regs : new.regs ≡ old.regs
-  pub rows : new.rows ≡ old.rows
+  pub scratch : new.scratch ≡ old.scratch
   pub lists : new.lists ≡ old.lists
 
 module _ (p : PlanView) (all : List LaneWriter) where
   pub none_dealt : (g : Tasks) (places : CellPlaces) (rooms : List (Box Writers)) → AreRooms p g places rooms → AreDealtSoFar p all 0 rooms rooms
   none_dealt g places rooms a j d l =
-      let r = a.each j d l in record { count = ap length r.nothing; own = λ e. r.nothing; room = r.own_room; seen = refl; cells = refl; regs = refl; rows = refl; lists = refl }
+      let r = a.each j d l in record { count = ap length r.nothing; own = λ e. r.nothing; room = r.own_room; seen = refl; cells = refl; scratch = refl; lists = refl }
 
   -- there is room for the next lane
   pub room_for_next : (n : ℕ) (old new : Writers) → n < length p.lanes → IsDealtSoFar p all n (lane_info p n).owner old new
@@ -74,8 +72,7 @@ module _ (p : PlanView) (all : List LaneWriter) where
         room = omega (arith, now.room, m.room);
         seen = m.seen ∙ now.seen;
         cells = m.cells ∙ now.cells;
-        regs = m.regs ∙ now.regs;
-        rows = m.rows ∙ now.rows;
+        scratch = m.scratch ∙ now.scratch;
         lists = m.lists ∙ now.lists;
       })
       (λ other. record {
@@ -84,8 +81,7 @@ module _ (p : PlanView) (all : List LaneWriter) where
         room = now.room;
         seen = now.seen;
         cells = now.cells;
-        regs = now.regs;
-        rows = now.rows;
+        scratch = now.scratch;
         lists = now.lists;
       })
 
@@ -100,8 +96,7 @@ module _ (p : PlanView) (all : List LaneWriter) where
           own = λ c. s.own c ∙ ap (λ (i : ℕ). map (λ l. get_or all l c) (first_own p j i)) e;
           seen = s.seen;
           cells = s.cells;
-          regs = s.regs;
-          rows = s.rows;
+          scratch = s.scratch;
           lists = s.lists;
         };
   }

@@ -5,10 +5,15 @@ use Rattle.std.specs.Global.{Vec, Box}
 use Rattle.std.specs.Prelude.{min}
 use Rattle.std.proofs.lemmas.List.{get_or-map}
 use Rattle.std.proofs.Math.Nat.{min-eq_left}
+use Rattle.std.proofs.lemmas.Bool.{true≢false}
 use Rattle.fv_graph.proofs.lemmas.Counts.{both_of}
 use Rattle.fv_graph.proofs.lemmas.Grouping.{get_any}
 use Rattle.fv_graph.proofs.lemmas.ReadsLemmas.{get_passing}
+use Rattle.fv_loopcode.specs.Words.{argument}
+use Rattle.fv_loopcode.specs.declared.step.Step.{Step}
 use Rattle.fv_loopcode_machine.specs.Lanes.{no_lane}
+use Rattle.fv_loopcode_machine.specs.Scratches.{IsNew, Serves}
+use Rattle.fv_loopcode_machine.specs.declared.scratch.Scratch.{Scratch}
 use Rattle.fv_split_plan.specs.Obeys.{OfLane, OfCells}
 use Rattle.fv_split_plan.specs.ObeysBeside.{HoldsJust}
 use Rattle.fv_split_plan.specs.headline.View.{PlanView, lane_info, cells_info, code_of, is_own}
@@ -27,6 +32,13 @@ use Rattle.fv_engine_spread.specs.Opening.{IsOpening, DealtRoomsEnter}
 use Rattle.fv_engine_spread.specs.Rooms.{IsRoom, HasCells}
 use Rattle.fv_engine_spread.specs.Swapped.{SameButCells, AreSwapped}
 use Rattle.fv_engine_spread.proofs.Places.{cells_at, slot_at}
+
+-- new scratch for a code serves it, whatever values are held
+new_serves : (steps : List Step) (held : ℕ → ℤ) (s : Scratch) → IsNew (length steps) s → Serves steps held s
+new_serves steps held s new = record {
+  room = record { regs = new.regs; rows = new.rows; last = new.last };
+  settled = λ e. absurd (true≢false (sym e ∙ new.settled));
+}
 
 module _ (k : Start) (opening : IsOpening k) where
   abbrev plan : PlanView
@@ -114,8 +126,8 @@ module _ (k : Start) (opening : IsOpening k) where
         cells = cells;
         nothing_seen = ap (λ (v : Vec Seen). v.items) seen ∙ r.nothing_seen;
         room = omega (arith, r.seen_room, ap (λ (v : Vec Seen). vec_capacity v) seen);
-        regs = ap (λ (v : Vec ℤ). length v.items) (same.regs ∙ s.regs) ∙ r.regs;
-        rows = ap (λ (v : Vec ℤ). length v.items) (same.rows ∙ s.rows) ∙ r.rows;
+        scratch = ∣ subst (Serves (code_of plan j) (argument k.held.now)) (sym (same.scratch ∙ s.scratch))
+            (new_serves (code_of plan j) (argument k.held.now) old.scratch r.scratch) ∣₁;
         lists =
             let all_left : (tasks_in k).vectors - 0 ≡ (tasks_in k).vectors = omega arith in
             omega (arith, ap (λ (v : ℕ). v * readers_of (tasks_in k) j) all_left, ap (λ (v : Vec (Vec Seen)). length v.items) lists, r.lists_are);

@@ -12,8 +12,7 @@ pub record IsDealt (p : PlanView) (all : List LaneWriter) (j : ℕ) (old new : W
   pub own : (d : LaneWriter) → new.lanes.own.items ≡ map (λ l. slice_index_or all l d) (own_lanes p j)
   pub seen : new.lanes.seen ≡ old.lanes.seen
   pub cells : new.lanes.cells ≡ old.lanes.cells
-  pub regs : new.regs ≡ old.regs
-  pub rows : new.rows ≡ old.rows
+  pub scratch : new.scratch ≡ old.scratch
   pub lists : new.lists ≡ old.lists
 
 -- so it is with each loop

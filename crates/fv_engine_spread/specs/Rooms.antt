@@ -2,6 +2,7 @@
 use Rattle.std.specs.Prelude.{◌≡◌, ℕ, ◌*◌, ◌<◌, ◌≤◌, List, [], length, slice_index, slice_index_or}
 use Rattle.std.specs.Vec.{vec_capacity}
 use Rattle.std.specs.Global.{Box}
+use Rattle.fv_loopcode_machine.specs.Scratches.{IsNew}
 use Rattle.fv_split_plan.specs.TasksBeside.{Tasks}
 use Rattle.fv_split_plan.specs.headline.View.{PlanView, code_of}
 use Rattle.fv_engine_lanes.specs.Plans.{own_lanes, sources_of, lanes_of_all, readers_of}
@@ -10,15 +11,14 @@ use Rattle.fv_engine_lanes.specs.declared.loop_cells.LoopCells.{LoopCells}
 use Rattle.fv_engine_parcels.specs.Contents.{list_room, AreRoomy}
 use Rattle.fv_engine_parcels.specs.declared.content.Writers.{Writers}
 
--- Empty lists of one loop: room for so many lanes of its own and so many seen ones, so many registers and
--- rows, and so many lists, each with room for the lanes of its own where they go in a list.
+-- Empty lists of one loop: room for so many lanes of its own and so many seen ones, scratch for so many steps, and so many lists, each
+-- with room for the lanes of its own where they go in a list.
 pub record IsRoom (own seen steps lists : ℕ) (w : Writers) : Type 0 where
   pub nothing : w.lanes.own.items ≡ []
   pub own_room : own ≤ vec_capacity w.lanes.own
   pub nothing_seen : w.lanes.seen.items ≡ []
   pub seen_room : seen ≤ vec_capacity w.lanes.seen
-  pub regs : length w.regs.items ≡ steps
-  pub rows : length w.rows.items ≡ steps * 32
+  pub scratch : IsNew steps w.scratch
   pub lists_are : length w.lists.items ≡ lists
   pub roomy : AreRoomy w.lists.items (list_room own)
 

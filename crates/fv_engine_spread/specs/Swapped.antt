@@ -15,8 +15,7 @@ pub record SameButCells (old new : Writers) : Type 0 where
   pub places : new.lanes.cells.places ≡ old.lanes.cells.places
   pub loop_no : new.lanes.cells.loop_no ≡ old.lanes.cells.loop_no
   pub count : length new.lanes.cells.lists.items ≡ length old.lanes.cells.lists.items
-  pub regs : new.regs ≡ old.regs
-  pub rows : new.rows ≡ old.rows
+  pub scratch : new.scratch ≡ old.scratch
   pub lists : new.lists ≡ old.lists
 
 -- each loop has writers, with as many lists of cells as stand at its number

@@ -6,10 +6,11 @@ ghost use Rattle.fv_engine_parcels.specs.Contents.{tasks_in};
 ghost use Rattle.fv_engine_spread.specs.Entries.{AreLoopsWriters, AreLoopsLanes};
 ghost use Rattle.fv_engine_spread.specs.Collected.{AreChainParcels, AreAllWriters, AreAllCells};
 
-use crate::scratch::{Scratch, keep};
+use crate::scratch::keep;
 use crate::swapping::swap_cells;
 use fv_engine_parcels::{Content, LoopParcel, Start, Writers};
 use fv_lines::LaneWriter;
+use fv_loopcode_machine::Scratch;
 use std::alloc::Global;
 
 // What each loop handed on, loop by loop, in a list with room for them.
@@ -32,7 +33,7 @@ fn loops_writers<'a, 'b>(
     writers
 }
 
-// Each lane's writer from the list of its loop, lane by lane, in a list with room for them. The registers and rows are kept.
+// Each lane's writer from the list of its loop, lane by lane, in a list with room for them. The loops' scratch is kept.
 fn all_writers<'a, 'b>(
     alloc: Global,
     start: &Start<'a, 'b>,
@@ -61,8 +62,8 @@ fn all_writers<'a, 'b>(
 }
 
 /// The writers of all lanes, lane by lane, out of the parcels of the loops' own edges at a vector: the exits where a block ran, the
-/// entries where it is given up; and the lists of all cells. The lists that are handed in have room, so that no memory is taken. Registers
-/// and rows are kept for the next block.
+/// entries where it is given up; and the lists of all cells. The lists that are handed in have room, so no memory is needed. The
+/// loops' scratch is kept for the next block; where there is no room to keep some, that block makes it anew.
 pub fn collect<'a, 'b>(
     alloc: Global,
     start: &Start<'a, 'b>,

@@ -15,5 +15,4 @@ pub use dealing::deal;
 pub use entries::entries_of;
 pub use laws::dealt_rooms_enter;
 pub use room::take_room;
-pub use scratch::Scratch;
 pub use swapping::swap_cells;

@@ -5,15 +5,17 @@ ghost use Rattle.fv_engine_lanes.specs.Cells.{ArePlaced};
 ghost use Rattle.fv_split_plan.specs.headline.View.{code_of};
 ghost use Rattle.fv_engine_lanes.specs.Plans.{own_lanes, sources_of, lanes_of_all, readers_of};
 ghost use Rattle.fv_engine_codes.specs.Codes.{AreOfPlan, AreLaneCounts};
+ghost use Rattle.fv_loopcode_machine.specs.Scratches.{IsNew};
 ghost use Rattle.fv_engine_parcels.specs.Contents.{list_room, AreRoomy};
 ghost use Rattle.fv_engine_spread.specs.Rooms.{IsRoom, HasCells, AreRooms};
 
-use crate::scratch::{Scratch, scratch_for, times};
+use crate::scratch::{scratch_for, times};
 use fv_engine_codes::LaneCount;
 use fv_engine_lanes::{CellPlaces, LoopCells, LoopLanes};
 use fv_engine_parcels::Writers;
 use fv_graph::Tasks;
 use fv_lines::Seen;
+use fv_loopcode_machine::Scratch;
 use fv_split_plan::Plan;
 use std::alloc::{AllocError, Global};
 
@@ -77,17 +79,18 @@ fn loop_cells<'b>(
     })
 }
 
-// The lists of one loop: for its own lanes, for the lanes that it sees, the registers and rows, and lists for the lanes that it hands to
-// those that read it; and its cells.
+// The lists of one loop: for its own lanes, for the lanes that it sees, and lists for the lanes that it hands to those that read it; its
+// scratch, and its cells.
 fn loop_room<'a, 'b>(
     alloc: Global,
     cells: LoopCells<'b>,
     count: LaneCount,
+    steps: u64,
     scratch: Scratch,
     lists: u64,
 ) -> Result<Writers<'a, 'b>, AllocError>
-    requires { length scratch.rows.items ≡ length scratch.regs.items * 32 }
-    ensures room { IfOk result (λ w. IsRoom count.own count.seen (length scratch.regs.items) lists w) }
+    requires scratch { IsNew steps scratch }
+    ensures room { IfOk result (λ w. IsRoom count.own count.seen steps lists w) }
     ensures cells { IfOk result (λ w. w.lanes.cells ≡ cells.entry) }
 {
     let own = Vec::with_capacity(alloc, count.own as usize)?;
@@ -95,14 +98,13 @@ fn loop_room<'a, 'b>(
     let lists = seen_lists(alloc, lists, room_of_list(count.own))?;
     Ok(Writers {
         lanes: LoopLanes { own, seen, cells },
-        regs: scratch.regs,
-        rows: scratch.rows,
+        scratch,
         lists,
     })
 }
 
 /// The lists of each loop of a plan for a block of these tasks: what goes over the loop's edges is kept in them, so that no task takes
-/// memory. Registers and rows are those that a block before kept, where they fit. More than a type counts is want of memory too.
+/// memory. Scratch is what a block before kept, where it fits. More than a type counts is want of memory too.
 pub fn take_room<'a, 'b>(
     alloc: Global,
     plan: &'b Plan,
@@ -120,8 +122,9 @@ pub fn take_room<'a, 'b>(
     for j in 0..plan.loops() {
         let lists = times(u64::from(tasks.vectors()), count_readers(tasks, j))?;
         let cells = loop_cells(alloc, plan, places, j)?;
-        let scratch = scratch_for(alloc, kept, plan.code(j).len())?;
-        let room = loop_room(alloc, cells, counts[j as usize], scratch, lists)?;
+        let steps = plan.code(j).len();
+        let scratch = scratch_for(alloc, kept, steps)?;
+        let room = loop_room(alloc, cells, counts[j as usize], steps, scratch, lists)?;
         let room = Box::new(alloc, room)?;
         rooms.push_reserved(room);
     }

@@ -1,18 +1,12 @@
-// What a loop's code works in, kept from block to block.
+// The scratch that loops' codes work in, kept from block to block.
 
-ghost use Rattle.std.specs.Prelude.{◌≡◌, ◌*◌, length, IfOk};
+ghost use Rattle.std.specs.Prelude.{◌≡◌, ◌*◌, IfOk};
+ghost use Rattle.fv_loopcode_machine.specs.Scratches.{IsNew};
 
 use fv_engine_parcels::Writers;
-use fv_loopcode_machine::blank_rows;
+use fv_loopcode_machine::Scratch;
 use std::alloc::{AllocError, Global};
 use std::mem::replace;
-
-/// A register for each step of a loop's code, and 32 numbers. No code looks at what they hold.
-#[derive(Drop)]
-pub struct Scratch {
-    pub regs: Vec<i32>,
-    pub rows: Vec<i32>,
-}
 
 // More than a type counts is want of memory.
 pub(crate) fn times(a: u64, b: u64) -> Result<u64, AllocError>
@@ -24,37 +18,28 @@ pub(crate) fn times(a: u64, b: u64) -> Result<u64, AllocError>
     }
 }
 
-// New registers and rows for so many steps.
-fn new_scratch(alloc: Global, steps: u64) -> Result<Scratch, AllocError>
-    ensures regs { IfOk result (λ s. length s.regs.items ≡ steps) }
-    ensures rows { IfOk result (λ s. length s.rows.items ≡ steps * 32) }
-{
-    let regs = Vec::from_elem(alloc, 0, steps as usize)?;
-    let rows = blank_rows(alloc, steps)?;
-    Ok(Scratch { regs, rows })
-}
-
-// Registers and rows for so many steps: the last of those that were kept, if these are as many, or else new ones.
+// Scratch for so many steps: the last that was kept, if it is for as many, or else new. The held values may be others now.
 pub(crate) fn scratch_for(
     alloc: Global,
     kept: &mut Vec<Scratch>,
     steps: u64,
 ) -> Result<Scratch, AllocError>
-    ensures regs { IfOk result (λ s. length s.regs.items ≡ steps) }
-    ensures rows { IfOk result (λ s. length s.rows.items ≡ steps * 32) }
+    ensures { IfOk result (λ s. IsNew steps s) }
 {
     let numbers = times(steps, 32)?;
-    let Some(scratch) = kept.pop() else {
-        return new_scratch(alloc, steps);
+    let Some(mut scratch) = kept.pop() else {
+        return Scratch::new(alloc, steps);
     };
     if scratch.regs.len() as u64 != steps || scratch.rows.len() as u64 != numbers {
-        return new_scratch(alloc, steps);
+        return Scratch::new(alloc, steps);
     }
+    scratch.settled = false;
+    scratch.last = 0;
     Ok(scratch)
 }
 
-// Keeps the registers and rows of all loops for the next block, those of the first loop last, so that they are the first to be taken. Where
-// there is no room for some, the next block makes them anew.
+// Keeps the scratch of all loops for the next block, that of the first loop last, so that it is the first to be taken. Where there is no
+// room to keep some, the next block makes it anew.
 pub(crate) fn keep<'a, 'b>(
     alloc: Global,
     mut writers: Vec<Box<Writers<'a, 'b>>>,
@@ -62,8 +47,6 @@ pub(crate) fn keep<'a, 'b>(
 ) {
     kept.clear();
     while let Some(mut one) = writers.pop() {
-        let regs = replace(&mut one.regs, Vec::new(alloc));
-        let rows = replace(&mut one.rows, Vec::new(alloc));
-        let _ = kept.push(Scratch { regs, rows });
+        let _ = kept.push(replace(&mut one.scratch, Scratch::empty(alloc)));
     }
 }

@@ -1,9 +1,11 @@
 -- What the tasks of a block need.
-use Rattle.std.specs.Prelude.{◌≡◌, ℕ, ◌*◌, ◌<◌, ◌≤◌, true, List, length, All, Bool, not}
+use Rattle.std.specs.Prelude.{◌≡◌, ℕ, ◌*◌, ◌<◌, ◌≤◌, true, List, length, get_or, All, Bool, not, ℤ}
 use Rattle.fv_outside.specs.headline.Tasks.{Tasks, reads_loop, bit, total}
 use Rattle.fv_loopcode.specs.Code.{IsWithin}
 use Rattle.fv_loopcode.specs.headline.Obeys.{OfLane}
 use Rattle.fv_loopcode.specs.Blocks.{AreApart}
+use Rattle.fv_loopcode_machine.specs.Scratches.{HasRoom, Serves}
+use Rattle.fv_loopcode_machine.specs.declared.scratch.Scratch.{Scratch}
 use Rattle.fv_engine_tasks.specs.headline.Block.{vectors_of}
 use Rattle.fv_engine_tasks.specs.Block.{Parts, Block}
 use Rattle.fv_engine_tasks.specs.declared.turns.Job.{Job}
@@ -33,13 +35,15 @@ pub record IsJob (b : Block) (g : Tasks) : Type 0 where
   pub within : (j : ℕ) → j < b.plan.count → All (λ s. IsWithin (length b.held) b.channels s) (b.plan.loops.code j)
   pub input : b.frames * b.channels ≤ length b.input
 
--- there is a register for each step of each loop's code
-abbrev pub RegistersFit : Parts → ℕ → Type 0
-RegistersFit p n = (j : ℕ) → j < p.count → length (p.loops.code j) ≤ n
+-- there is scratch for each loop's code
+pub record HaveScratch (p : Parts) (ss : List Scratch) : Type 0 where
+  pub count : length ss ≡ p.count
+  pub each : (j : ℕ) (d : Scratch) → j < p.count → HasRoom (p.loops.code j) (get_or ss j d)
 
--- there are 32 numbers for each step of each loop's code
-abbrev pub RowsFit : Parts → ℕ → Type 0
-RowsFit p n = (j : ℕ) → j < p.count → length (p.loops.code j) * 32 ≤ n
+-- and it serves runs with these held values
+pub record ServeAll (p : Parts) (held : ℕ → ℤ) (ss : List Scratch) : Type 0 where
+  pub count : length ss ≡ p.count
+  pub each : (j : ℕ) (d : Scratch) → j < p.count → Serves (p.loops.code j) held (get_or ss j d)
 
 -- how many tasks are not done
 abbrev pub left_to_do : List Bool → ℕ

@@ -4,3 +4,4 @@ pub mod Jobs
 pub mod Events
 pub mod Underway
 pub mod Outputs
+pub mod inner

@@ -1,7 +1,8 @@
-// The samples of the outputs, frame by frame.
+// The samples of the outputs, as frames: each output strip by strip.
 
 ghost use Rattle.std.specs.Prelude.{◌≡◌, ℕ, ◌+◌, ◌*◌, ◌^◌, ◌<◌, ◌≤◌, length, All, slice_index_or, pos};
 ghost use Rattle.fv_engine_tasks.specs.Outputs.{CanRead, sample_of};
+ghost use Rattle.fv_engine_tasks.specs.inner.Frames.{number_in};
 
 use fv_loopcode::Store;
 
@@ -13,8 +14,8 @@ fn put(output: &mut [i32], t: usize, place: usize, width: usize, x: i32)
     requires inside { place < width }
     requires there { t * width + place < length output.old }
     ensures long { length output.new ≡ length output.old }
-    ensures put { slice_index_or output.new (t * width + place) (pos 0) ≡ x }
-    ensures others { (s j : ℕ) → j < width → (j ≡ place → s ≡ t → ⊥) → slice_index_or output.new (s * width + j) (pos 0) ≡ slice_index_or output.old (s * width + j) (pos 0) }
+    ensures put { number_in output.new width t place ≡ x }
+    ensures others { (s j : ℕ) → j < width → (j ≡ place → s ≡ t → ⊥) → number_in output.new width s j ≡ number_in output.old width s j }
 {
     output[t * width + place] = x;
 }
@@ -24,8 +25,8 @@ fn put_row(row: &[i32], from: usize, place: usize, width: usize, output: &mut [i
     requires inside { place < width }
     requires there { (from + length row.now) * width ≤ length output.old }
     ensures long { length output.new ≡ length output.old }
-    ensures put { (k : ℕ) → k < length row.now → slice_index_or output.new ((from + k) * width + place) (pos 0) ≡ slice_index_or row.now k (pos 0) }
-    ensures others { (s j : ℕ) → j < width → (j ≡ place → from ≤ s → ⊥) → slice_index_or output.new (s * width + j) (pos 0) ≡ slice_index_or output.old (s * width + j) (pos 0) }
+    ensures put { (k : ℕ) → k < length row.now → number_in output.new width (from + k) place ≡ slice_index_or row.now k (pos 0) }
+    ensures others { (s j : ℕ) → j < width → (j ≡ place → from ≤ s → ⊥) → number_in output.new width s j ≡ number_in output.old width s j }
 {
     for k in 0..row.len() {
         put(output, from + k, place, width, row[k]);
@@ -50,8 +51,8 @@ fn copy_strip<S: Store>(
     requires samples { (k : ℕ) → k < length row.old → CanRead (S.state store.now).lanes (from + k) lane }
     ensures row { length row.new ≡ length row.old }
     ensures long { length output.new ≡ length output.old }
-    ensures put { (k : ℕ) → k < length row.old → slice_index_or output.new ((from + k) * width + place) (pos 0) ≡ sample_of (S.state store.now).lanes (from + k) lane }
-    ensures others { (s j : ℕ) → j < width → (j ≡ place → from ≤ s → ⊥) → slice_index_or output.new (s * width + j) (pos 0) ≡ slice_index_or output.old (s * width + j) (pos 0) }
+    ensures put { (k : ℕ) → k < length row.old → number_in output.new width (from + k) place ≡ sample_of (S.state store.now).lanes (from + k) lane }
+    ensures others { (s j : ℕ) → j < width → (j ≡ place → from ≤ s → ⊥) → number_in output.new width s j ≡ number_in output.old width s j }
 {
     store.load_many(lane, from, 0, row);
     put_row(row, from as usize, place, width, output);
@@ -72,8 +73,8 @@ fn copy_lane<S: Store>(
     requires long { length output.old ≡ frames * width }
     requires there { (t : ℕ) → t < frames → CanRead (S.state store.now).lanes t lane }
     ensures long { length output.new ≡ length output.old }
-    ensures put { (t : ℕ) → t < frames → slice_index_or output.new (t * width + place) (pos 0) ≡ sample_of (S.state store.now).lanes t lane }
-    ensures others { (t j : ℕ) → j < width → (j ≡ place → ⊥) → slice_index_or output.new (t * width + j) (pos 0) ≡ slice_index_or output.old (t * width + j) (pos 0) }
+    ensures put { (t : ℕ) → t < frames → number_in output.new width t place ≡ sample_of (S.state store.now).lanes t lane }
+    ensures others { (t j : ℕ) → j < width → (j ≡ place → ⊥) → number_in output.new width t j ≡ number_in output.old width t j }
 {
     let mut row = [0; STRIP];
     let mut from = 0;

@@ -13,7 +13,7 @@ ghost use Rattle.fv_loopcode.specs.headline.Code.{ran};
 ghost use Rattle.fv_loopcode.specs.Code.{MayRun, frame_of, IsWithin};
 ghost use Rattle.fv_loopcode.specs.Blocks.{before};
 ghost use Rattle.fv_engine_tasks.specs.Block.{IsReal};
-ghost use Rattle.fv_engine_tasks.specs.Jobs.{IsJob, block_of, RegistersFit, RowsFit, left_to_do};
+ghost use Rattle.fv_engine_tasks.specs.Jobs.{IsJob, block_of, ServeAll, left_to_do};
 ghost use Rattle.fv_engine_tasks.specs.Events.{IsFree, Runs, Owes, KeepsCore};
 ghost use Rattle.fv_engine_tasks.specs.Underway.{IsUnderway, EndsBlock};
 
@@ -21,7 +21,7 @@ use crate::codes::Codes;
 use fv_graph::Tasks;
 use fv_graph_core::{Core, Event};
 use fv_loopcode::{Store, task_is_free};
-use fv_loopcode_machine::run;
+use fv_loopcode_machine::{Scratch, run};
 use fv_outside::{Gate, Line, Task};
 
 /// What the tasks of a block are of: the plan's codes, the held values, and the input in frames of so many channels, cut in
@@ -40,15 +40,13 @@ pub struct Job<'p, 'h, 'i, P> {
 fn run_task<P: Codes, S: Store>(
     job: &Job<'_, '_, '_, P>,
     task: Task,
-    rows: &mut [i32],
-    regs: &mut [i32],
+    scratches: &mut [Scratch],
     store: &mut S,
 )
     requires valid { S.is_valid store.old }
     requires there { task.loop_no < (P.parts job.now.plan.now).count }
     requires inside { task.vector * job.now.vector < job.now.frames }
-    requires rows { length ((P.parts job.now.plan.now).loops.code task.loop_no) * 32 ≤ length rows.old }
-    requires regs { length ((P.parts job.now.plan.now).loops.code task.loop_no) ≤ length regs.old }
+    requires scratch { ServeAll (P.parts job.now.plan.now) (argument job.now.held.now) scratches.old }
     requires within { All (λ s. IsWithin (length job.now.held.now) job.now.channels s)
         ((P.parts job.now.plan.now).loops.code task.loop_no) }
     requires input { job.now.frames * job.now.channels ≤ length job.now.input.now }
@@ -62,12 +60,11 @@ fn run_task<P: Codes, S: Store>(
         (S.state store.old) }
     ensures valid { S.is_valid store.new }
     ensures kept { S.rest store.new ≡ S.rest store.old }
-    ensures regs { length regs.new ≡ length regs.old }
+    ensures scratch { ServeAll (P.parts job.now.plan.now) (argument job.now.held.now) scratches.new }
 {
     let code = job.plan.code(task.loop_no);
     let from = u64::from(task.vector) * u64::from(job.vector);
     let count = u64::from(job.vector).min(u64::from(job.frames) - from);
-    let steps = code.len() as usize;
     run(
         code,
         job.held,
@@ -75,8 +72,7 @@ fn run_task<P: Codes, S: Store>(
         job.channels,
         from,
         count,
-        rows,
-        &mut regs[..steps],
+        &mut scratches[task.loop_no as usize],
         store,
     );
 }
@@ -137,8 +133,7 @@ fn turn<P: Codes, S: Store, G: Gate>(
     job: &Job<'_, '_, '_, P>,
     tasks: &Tasks,
     core: &mut Core,
-    rows: &mut [i32],
-    regs: &mut [i32],
+    scratches: &mut [Scratch],
     lines: &mut Vec<Line>,
     store: &mut S,
     gate: &G,
@@ -147,8 +142,7 @@ fn turn<P: Codes, S: Store, G: Gate>(
     requires same { core.old.tasks ≡ tasks.now.tasks }
     requires back { back_of (deque_of core.old.now 0) ≡ Some t }
     requires job { IsJob (block_of P.parts job.now) tasks.now.tasks }
-    requires rows { RowsFit (P.parts job.now.plan.now) (length rows.old) }
-    requires regs { RegistersFit (P.parts job.now.plan.now) (length regs.old) }
+    requires scratch { ServeAll (P.parts job.now.plan.now) (argument job.now.held.now) scratches.old }
     requires room { task_count tasks.now.tasks ≤ vec_capacity lines.old }
     requires valid { S.is_valid store.old }
     requires underway { (first : State) × IsReal (block_of P.parts job.now) first
@@ -156,8 +150,7 @@ fn turn<P: Codes, S: Store, G: Gate>(
     ensures core { KeepsCore core.old core.new }
     ensures kept { S.rest store.new ≡ S.rest store.old }
     ensures valid { S.is_valid store.new }
-    ensures rows { length rows.new ≡ length rows.old }
-    ensures regs { length regs.new ≡ length regs.old }
+    ensures scratch { ServeAll (P.parts job.now.plan.now) (argument job.now.held.now) scratches.new }
     ensures room { vec_capacity lines.new ≡ vec_capacity lines.old }
     ensures underway { (first : State) → IsReal (block_of P.parts job.now) first
         → IsUnderway tasks.now.tasks (block_of P.parts job.now) first core.old.now (S.state store.old) lines.old.items
@@ -170,7 +163,7 @@ fn turn<P: Codes, S: Store, G: Gate>(
     let task = tasks.task(t);
     let start = 2 * lines.len() as u64;
     gate.at(0, task);
-    run_task(job, task, rows, regs, store);
+    run_task(job, task, scratches, store);
     finish(core, tasks, t);
     arrive_all(core, tasks, t);
     lines.push_reserved(Line {
@@ -194,14 +187,13 @@ fn leave(core: &mut Core, tasks: &Tasks)
     let _ = core.step(tasks, Event::Leave { worker: 0 });
 }
 
-/// Runs all tasks of a block, each after all that it reads, over rows and registers that serve the longest code. The gate sees each before
-/// it runs, and the lines are the block's journal.
+/// Runs all tasks of a block, each after all that it reads, each in the scratch of its loop. The gate sees each before it runs, and the
+/// lines are the block's journal.
 pub fn run_tasks<P: Codes, S: Store, G: Gate>(
     job: &Job<'_, '_, '_, P>,
     tasks: &Tasks,
     core: &mut Core,
-    rows: &mut [i32],
-    regs: &mut [i32],
+    scratches: &mut [Scratch],
     lines: &mut Vec<Line>,
     store: &mut S,
     gate: &G,
@@ -209,8 +201,7 @@ pub fn run_tasks<P: Codes, S: Store, G: Gate>(
     requires same { core.old.tasks ≡ tasks.now.tasks }
     requires one { core.old.workers ≡ 1 }
     requires job { IsJob (block_of P.parts job.now) tasks.now.tasks }
-    requires rows { RowsFit (P.parts job.now.plan.now) (length rows.old) }
-    requires regs { RegistersFit (P.parts job.now.plan.now) (length regs.old) }
+    requires scratch { ServeAll (P.parts job.now.plan.now) (argument job.now.held.now) scratches.old }
     requires room { task_count tasks.now.tasks ≤ vec_capacity lines.old }
     requires valid { S.is_valid store.old }
     requires underway { (first : State) × IsReal (block_of P.parts job.now) first
@@ -218,8 +209,7 @@ pub fn run_tasks<P: Codes, S: Store, G: Gate>(
     ensures core { KeepsCore core.old core.new }
     ensures kept { S.rest store.new ≡ S.rest store.old }
     ensures valid { S.is_valid store.new }
-    ensures rows { length rows.new ≡ length rows.old }
-    ensures regs { length regs.new ≡ length regs.old }
+    ensures scratch { ServeAll (P.parts job.now.plan.now) (argument job.now.held.now) scratches.new }
     ensures room { vec_capacity lines.new ≡ vec_capacity lines.old }
     // All tasks are run by worker 0.
     ensures who { All (λ (line : Line). line.worker ≡ 0) lines.old.items → All (λ (line : Line). line.worker ≡ 0) lines.new.items }
@@ -229,7 +219,7 @@ pub fn run_tasks<P: Codes, S: Store, G: Gate>(
         → EndsBlock tasks.now.tasks (block_of P.parts job.now) first (S.state store.new) lines.new.items }
 {
     while let Some(t) = core.next_of(0) {
-        turn(job, tasks, core, rows, regs, lines, store, gate, t);
+        turn(job, tasks, core, scratches, lines, store, gate, t);
     }
     leave(core, tasks);
 }

@@ -1,28 +1,41 @@
 // Runs by strips, beside runs by samples.
 
-ghost use Rattle.std.specs.Prelude.{◌≡◌, ◌<◌, ◌+◌, [], length};
+ghost use Rattle.std.specs.Prelude.{◌≡◌, ◌<◌, ◌+◌, ◌*◌, [], length, IfOk};
+ghost use Rattle.fv_loopcode_machine.specs.Scratches.{IsNew, HasRoom as HasScratchRoom};
 ghost use Rattle.fv_loopcode_tests.specs.Shelf.{HasRoom};
 ghost use Rattle.fv_loopcode_tests.specs.Codes.{running_sum};
 
 use crate::rows::{ONE_LANE, SUM, shelf_of, sum};
 use crate::shelf::Shelf;
-use fv_loopcode_machine::{Code, run};
+use fv_loopcode_machine::{Code, Scratch, run};
+use std::alloc::{AllocError, Global};
 use std::process::Abort;
 use std::test::Fail;
 
-// Rows that hold what the codes do not look at.
-pub(crate) const USED: [i32; 288] = [-7; 288];
+// Scratch for so many steps, whose rows hold what the codes do not look at.
+pub(crate) fn used(alloc: Global, steps: u64) -> Result<Scratch, AllocError>
+    requires { steps < 100 }
+    ensures { IfOk result (λ s. IsNew steps s) }
+{
+    Ok(Scratch {
+        regs: Vec::from_elem(alloc, 0, steps as usize)?,
+        rows: Vec::from_elem(alloc, -7, steps as usize * 32)?,
+        settled: false,
+        in_rows: false,
+        last: 0,
+    })
+}
 
 // Runs the running sum over so many samples, by strips.
-fn sum_by_strips(code: &Code, input: &[i32], count: u64, registers: &mut [i32], shelf: &mut Shelf)
+fn sum_by_strips(code: &Code, input: &[i32], count: u64, scratch: &mut Scratch, shelf: &mut Shelf)
     requires code { code.now ≡ running_sum }
-    requires registers { length registers.old ≡ 7 }
+    requires scratch { IsNew 7 scratch.old }
     requires few { count < 1000 }
     requires input { length input.now ≡ count }
     requires room { HasRoom shelf.old count }
+    ensures { HasScratchRoom running_sum scratch.new }
 {
-    let mut rows = USED;
-    run(code, &[], input, 1, 0, count, &mut rows, registers, shelf);
+    run(code, &[], input, 1, 0, count, scratch, shelf);
 }
 
 // Two strips and a part of a third.
@@ -40,10 +53,11 @@ fn strips_are_samples(rt: HostRuntime) -> Result<(), Fail> {
     let mut registers = [0; 7];
     let mut samples = shelf_of(rt.alloc(), COUNT)?;
     sum(&code, &input, COUNT, &mut registers, &mut samples);
-    let mut last = [0; 7];
+    let mut scratch = used(rt.alloc(), 7)?;
     let mut strips = shelf_of(rt.alloc(), COUNT)?;
-    sum_by_strips(&code, &input, COUNT, &mut last, &mut strips);
+    sum_by_strips(&code, &input, COUNT, &mut scratch, &mut strips);
     assert_eq!(rt; strips.samples.as_slice(), samples.samples.as_slice());
-    assert_eq!(rt; last.as_slice(), registers.as_slice());
+    assert_eq!(rt; scratch.registers(), registers.as_slice());
+    assert!(rt; scratch.settled);
     Ok(())
 }

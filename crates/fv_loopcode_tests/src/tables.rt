@@ -1,14 +1,15 @@
 // Code on a table and cells, by samples and by strips.
 
 ghost use Rattle.std.specs.Prelude.{◌≡◌, ◌⊎◌, ◌<◌, ◌*◌, [], length};
+ghost use Rattle.fv_loopcode_machine.specs.Scratches.{IsNew, HasRoom as HasScratchRoom};
 ghost use Rattle.fv_loopcode_tests.specs.Codes.{written_and_looked_up, written_again};
 ghost use Rattle.fv_loopcode_tests.specs.Shelf.{HasRoom};
 
 use crate::rows::shelf_of;
 use crate::shelf::Shelf;
-use crate::strips::USED;
+use crate::strips::used;
 use fv_loopcode::{Counts, Step};
-use fv_loopcode_machine::Code;
+use fv_loopcode_machine::{Code, Scratch};
 use fv_num::Op;
 use std::process::Abort;
 use std::test::Fail;
@@ -65,15 +66,15 @@ fn by_samples(code: &Code, input: &[i32], count: u64, registers: &mut [i32], she
 }
 
 // The same, by strips.
-fn by_strips(code: &Code, input: &[i32], count: u64, registers: &mut [i32], shelf: &mut Shelf)
+fn by_strips(code: &Code, input: &[i32], count: u64, scratch: &mut Scratch, shelf: &mut Shelf)
     requires code { (code.now ≡ written_and_looked_up) ⊎ (code.now ≡ written_again) }
-    requires registers { length registers.old ≡ length code.now }
+    requires scratch { IsNew (length code.now) scratch.old }
     requires few { count < 1000 }
     requires input { length input.now ≡ count * 3 }
     requires room { HasRoom shelf.old count }
+    ensures { HasScratchRoom code.now scratch.new }
 {
-    let mut rows = USED;
-    fv_loopcode_machine::run(code, &[], input, 3, 0, count, &mut rows, registers, shelf);
+    fv_loopcode_machine::run(code, &[], input, 3, 0, count, scratch, shelf);
 }
 
 #[test]
@@ -81,17 +82,17 @@ fn what_is_written_is_read_at_once(rt: HostRuntime) -> Result<(), Fail> {
     let Some(code) = Code::new(rt.alloc(), &WRITTEN_AND_LOOKED_UP, ONE)? else {
         return Err("no code".into());
     };
-    let mut registers = [0; 5];
+    let mut scratch = used(rt.alloc(), 5)?;
     let mut shelf = shelf_of(rt.alloc(), 3)?;
     by_strips(
         &code,
         &[0, 1, 0, 1, 5, 0, 0, 9, 1],
         3,
-        &mut registers,
+        &mut scratch,
         &mut shelf,
     );
     assert_eq!(rt; shelf.cells.as_slice(), [9, 5].as_slice());
-    assert_eq!(rt; registers.as_slice(), [0, 9, 1, 5, 30].as_slice());
+    assert_eq!(rt; scratch.registers(), [0, 9, 1, 5, 30].as_slice());
     Ok(())
 }
 
@@ -110,11 +111,11 @@ fn strips_write_as_samples_do(rt: HostRuntime) -> Result<(), Fail> {
     let mut registers = [0; 9];
     let mut samples = shelf_of(rt.alloc(), COUNT)?;
     by_samples(&code, &input, COUNT, &mut registers, &mut samples);
-    let mut last = [0; 9];
+    let mut scratch = used(rt.alloc(), 9)?;
     let mut strips = shelf_of(rt.alloc(), COUNT)?;
-    by_strips(&code, &input, COUNT, &mut last, &mut strips);
+    by_strips(&code, &input, COUNT, &mut scratch, &mut strips);
     assert_eq!(rt; strips.samples.as_slice(), samples.samples.as_slice());
     assert_eq!(rt; strips.cells.as_slice(), samples.cells.as_slice());
-    assert_eq!(rt; last.as_slice(), registers.as_slice());
+    assert_eq!(rt; scratch.registers(), registers.as_slice());
     Ok(())
 }

@@ -9,8 +9,8 @@ use Rattle.fv_lines.specs.Solo.{opening_lanes, AreFramed}
 use Rattle.fv_lines.specs.declared.shape.LaneShape.{LaneShape}
 use Rattle.fv_lines.specs.declared.shape.LaneState.{LaneState}
 use Rattle.fv_split_plan.specs.Rows.{lists_of}
-use Rattle.fv_engine_tasks.specs.Block.{Block, IsReal}
-use Rattle.fv_engine_tasks.specs.Jobs.{IsJob, RegistersFit, RowsFit}
+use Rattle.fv_engine_tasks.specs.Block.{Parts, Block, IsReal}
+use Rattle.fv_engine_tasks.specs.Jobs.{IsJob, HaveScratch}
 use Rattle.fv_engine_crew.specs.Ran.{Ran}
 use Rattle.fv_engine.specs.declared.lanes.Lanes.{Lanes}
 use Rattle.fv_engine.specs.declared.runner.TaskRunner.{TaskRunner}
@@ -29,16 +29,15 @@ opening_over tables lengths shapes states frames cells lists = record {
 abbrev pub opening_of : (tables : List (List ℤ)) → Lanes → (frames : ℕ) → State
 opening_of tables l frames = opening_over tables l.layout l.shapes.items l.states.items frames (cells_of l.region) l.lists.items
 
--- The tasks are the block's, and none is told yet; there are a register and a row for each step, and the block's codes go on from what the
--- places hold.
+-- The tasks are the block's, and none is told yet; there is scratch for each loop's code, and the block's codes go on from what the places
+-- hold.
 pub record MayRun (b : Block) (tables : List (List ℤ)) (l : Lanes) (r : TaskRunner) : Type 0 where
   pub framed : AreFramed l.layout l.shapes.items b.frames
   pub count : length l.layout ≡ b.plan.lanes
   pub lists : length l.lists.items ≡ b.plan.cells
   pub job : IsJob b r.tasks.tasks
   pub real : IsReal b (opening_of tables l b.frames)
-  pub registers : RegistersFit b.plan (length r.regs.items)
-  pub rows : RowsFit b.plan (length r.rows.items)
+  pub scratch : HaveScratch b.plan r.scratch.items
   pub untold : r.lines.items ≡ []
 
 -- the tasks of the block ran from the old lanes on, and left the new ones, these lines and these samples of the outputs
@@ -53,8 +52,7 @@ pub record AreSameLanes (old new : Lanes) : Type 0 where
   pub shapes : new.shapes ≡ old.shapes
   pub lists : length new.lists.items ≡ length old.lists.items
 
--- the tasks, and as many registers and rows as before
-pub record IsSameRunner (old new : TaskRunner) : Type 0 where
+-- the tasks, and scratch for each loop of the plan
+pub record IsSameRunner (p : Parts) (old new : TaskRunner) : Type 0 where
   pub tasks : new.tasks ≡ old.tasks
-  pub registers : length new.regs.items ≡ length old.regs.items
-  pub rows : length new.rows.items ≡ length old.rows.items
+  pub scratch : HaveScratch p new.scratch.items

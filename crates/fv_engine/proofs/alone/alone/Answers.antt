@@ -1,14 +1,17 @@
 use Rattle.std.proofs.Common.{◌≡◌, ◌∙◌, ◌+◌, ◌*◌, ◌<◌, ℕ, ℤ, List, length, All, refl, ap, sym, subst, arith, rules}
 use Rattle.std.specs.Prelude.{slice_index_or}
 use Rattle.std.specs.Global.{Vec}
-use Rattle.std.proofs.lemmas.List.{length-map}
+use Rattle.std.specs.Vec.{with_items}
+use Rattle.std.proofs.lemmas.List.{length-map, with_items_is}
 use Rattle.fv_signal.specs.Words.{argument}
 use Rattle.fv_outside.specs.declared.gate.Line.{Line}
 use Rattle.fv_graph.specs.Graph.{Graph}
 use Rattle.fv_loopcode.specs.headline.Lanes.{Lane}
 use Rattle.fv_loopcode.specs.headline.State.{State}
 use Rattle.fv_engine_tasks.specs.Block.{Block}
-use Rattle.fv_engine_tasks.specs.Jobs.{IsJob, block_of}
+use Rattle.fv_loopcode_machine.specs.declared.scratch.Scratch.{Scratch}
+use Rattle.fv_engine_tasks.specs.Jobs.{IsJob, block_of, HaveScratch, ServeAll}
+use Rattle.fv_engine_tasks.proofs.lemmas.Served.{unsettled_serve, served_room}
 use Rattle.fv_engine_tasks.specs.Outputs.{sample_of}
 use Rattle.fv_engine_tasks.specs.Underway.{IsUnderway, EndsBlock}
 use Rattle.fv_engine_tasks.proofs.lemmas.Full.{IsDone, can_read}
@@ -54,6 +57,23 @@ module _ (g : Over) (c : After-run_tasks g) where
 pub run_tasks-requires-clause-underway : goal.run_tasks-requires-clause-underway
 run_tasks-requires-clause-underway g c =
     let d = (goal.at.run_tasks-requires-clause-underway g c).After-begin in (first g d, c.requires.real, underway g d)
+
+pub run_tasks-requires-clause-scratch : goal.run_tasks-requires-clause-scratch
+run_tasks-requires-clause-scratch g c =
+    let job = c.args.job.now in let parts = g.P.Codes.parts job.plan.now in
+    subst (λ (ss : List Scratch). ServeAll parts (argument job.held.now) ss) (sym c.deref_mut.ensures.value)
+    (unsettled_serve parts (argument job.held.now) c.args.runner.now.scratch.items c.begin.new.self.scratch.items c.requires.scratch c.begin.ensures.scratch)
+
+pub returns-clause-runner : goal.returns-clause-runner
+returns-clause-runner g c =
+    let job = c.args.job.now in let parts = g.P.Codes.parts job.plan.now in
+    let scratch = c.begin.new.self.scratch in
+    let served = c.run_tasks.ensures.scratch in
+    let is = with_items_is scratch c.run_tasks.new.scratches (omega (arith, c.run_tasks.auto.scratches, c.deref_mut.ensures.len, scratch.ok.0)) in
+    record {
+      tasks = c.begin.ensures.tasks;
+      scratch = subst (λ (ss : List Scratch). HaveScratch parts ss) (sym is) (served_room parts (argument job.held.now) c.run_tasks.new.scratches served);
+    }
 
 pub copy_outputs-requires-clause-there : goal.copy_outputs-requires-clause-there
 copy_outputs-requires-clause-there g c = λ t m.

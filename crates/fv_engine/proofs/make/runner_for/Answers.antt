@@ -33,6 +33,5 @@ returns c = record {
     pairs = λ j i. c.in_ok-tasks.ensures.pairs j i ∙ ap (λ (rs : List Reads). reads_loop rs j i) c.reads.ensures;
     most_are = c.in_ok-tasks.ensures.vectors.1;
   };
-  registers = λ j l. let q = c.most_steps-steps.ensures j l in omega (arith, q, c.in_ok-regs.ensures.len, c.in_ok-regs.regs.ok.0);
-  rows = λ j l. let q = c.most_steps-steps.ensures j l in omega (arith, q, c.in_ok-rows.ensures);
+  scratch = c.in_ok-scratch.ensures;
 }

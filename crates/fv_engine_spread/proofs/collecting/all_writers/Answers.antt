@@ -102,8 +102,7 @@ loop-info-preserved c =
       alloc = x.alloc;
       value = record {
         lanes = record { own = c.pop.new.self; seen = c.deref_mut.result.now.lanes.seen; cells = c.deref_mut.result.now.lanes.cells };
-        regs = c.deref_mut.result.now.regs;
-        rows = c.deref_mut.result.now.rows;
+        scratch = c.deref_mut.result.now.scratch;
         lists = c.deref_mut.result.now.lists;
       };
     } in

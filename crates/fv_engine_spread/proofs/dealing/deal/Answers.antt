@@ -104,8 +104,7 @@ loop-info-preserved c =
       alloc = (get_or at.rooms c.in-Some.info.now.owner x).alloc;
       value = record {
         lanes = record { own = c.push_reserved.new.self; seen = c.deref_mut.result.now.lanes.seen; cells = c.deref_mut.result.now.lanes.cells };
-        regs = c.deref_mut.result.now.regs;
-        rows = c.deref_mut.result.now.rows;
+        scratch = c.deref_mut.result.now.scratch;
         lists = c.deref_mut.result.now.lists;
       };
     } in
@@ -118,8 +117,7 @@ loop-info-preserved c =
       room = c.push_reserved.ensures.capacity ∙ ap (λ (u : Writers). vec_capacity u.lanes.own) same;
       seen = ap (λ (u : Writers). u.lanes.seen) same;
       cells = ap (λ (u : Writers). u.lanes.cells) same;
-      regs = ap (λ (u : Writers). u.regs) same;
-      rows = ap (λ (u : Writers). u.rows) same;
+      scratch = ap (λ (u : Writers). u.scratch) same;
       lists = ap (λ (u : Writers). u.lists) same;
     } in
     let one : length (at.yielded ++ (c.in-Some.info, w) ∷ []) ≡ n + 1 = length_push at.yielded (c.in-Some.info, w) in

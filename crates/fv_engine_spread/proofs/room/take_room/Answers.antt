@@ -30,11 +30,11 @@ loop-j-preserved c =
     let counted : IsLaneCount p g j n = c.requires.counts.each j (record { own = 0; seen = 0 }) there in
     let lists : c.in_ok-lists.lists ≡ g.vectors * readers_of g j =
     c.in_ok-lists.ensures ∙ ap₂ (λ (a b : ℕ). a * b) (c.from.ensures ∙ c.vectors.ensures.value) c.count_readers.ensures in
-    let steps : length c.in_ok-scratch.scratch.regs.items ≡ length (code_of p j) = c.in_ok-scratch.ensures.regs ∙ c.len.ensures ∙ ap length c.code.ensures in
+    let steps : c.len-steps.result ≡ length (code_of p j) = c.len-steps.ensures ∙ ap length c.code.ensures in
     let long : length old ≡ j = omega (arith, c.loop-j.invariant.count, c.loop-j.rooms.ok) in
     let here : IsLoopRoom p g places j c.in_ok-room.room = record {
-      room = room_same c.in_ok-room.room n.own (length (own_lanes p j)) n.seen (length (lanes_of_all p (sources_of g j)))
-          (length c.in_ok-scratch.scratch.regs.items) (length (code_of p j)) c.in_ok-lists.lists (g.vectors * readers_of g j) counted.own counted.seen steps lists c.in_ok-room.ensures.room;
+      room = room_same c.in_ok-room.room n.own (length (own_lanes p j)) n.seen (length (lanes_of_all p (sources_of g j))) c.len-steps.result
+          (length (code_of p j)) c.in_ok-lists.lists (g.vectors * readers_of g j) counted.own counted.seen steps lists c.in_ok-room.ensures.room;
       cells = subst (λ (cs : LoopCells). HasCells p places j cs) (sym c.in_ok-room.ensures.cells) c.in_ok-cells.ensures;
     } in
     record {

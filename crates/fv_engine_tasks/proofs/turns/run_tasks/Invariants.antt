@@ -1,9 +1,10 @@
-use Rattle.std.proofs.Common.{◌≡◌, length}
+use Rattle.std.proofs.Common.{◌≡◌}
 use Rattle.std.specs.Prelude.{All}
 use Rattle.fv_outside.specs.declared.gate.Line.{Line}
+use Rattle.fv_loopcode.specs.Words.{argument}
 use Rattle.fv_loopcode.specs.headline.State.{State}
 use Rattle.fv_engine_tasks.specs.Block.{IsReal}
-use Rattle.fv_engine_tasks.specs.Jobs.{left_to_do, block_of}
+use Rattle.fv_engine_tasks.specs.Jobs.{left_to_do, block_of, ServeAll}
 use Rattle.fv_engine_tasks.specs.Events.{KeepsCore}
 use Rattle.fv_engine_tasks.specs.Underway.{IsUnderway}
 use Rattle.fv_engine_tasks.proofs.turns.run_tasks.Given as goal
@@ -13,8 +14,7 @@ invariant-loop-t g l = record {
   core : KeepsCore l.initial.core l.core;
   valid : g.S.Store.is_valid l.store;
   kept : g.S.Store.rest l.store ≡ g.S.Store.rest l.initial.store;
-  rows : length l.rows ≡ length l.initial.rows;
-  regs : length l.regs ≡ length l.initial.regs;
+  scratch : ServeAll (g.P.Codes.parts l.job.plan.now) (argument l.job.held.now) l.scratches;
   room : l.lines.cap ≡ l.initial.lines.cap;
   who : All (λ (line : Line). line.worker ≡ 0) l.initial.lines.items → All (λ (line : Line). line.worker ≡ 0) l.lines.items;
   goes_on : (first : State) → IsReal (block_of g.P.Codes.parts l.job) first

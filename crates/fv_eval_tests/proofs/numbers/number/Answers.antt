@@ -8,6 +8,6 @@ use Rattle.fv_eval_tests.proofs.numbers.number.Goals as goal
 pub number_of-requires-clause-composed : goal.number_of-requires-clause-composed
 number_of-requires-clause-composed c =
     let p = c.in-Ok-evaluate.program in
-    let sound = c.in-Ok-evaluate.ensures.sound.1 in
-    let is = well_is_composed (tree_of p.diagrams p.root) sound.well in
+    let runs = c.in-Ok-evaluate.ensures.runs.1 in
+    let is = well_is_composed (tree_of p.diagrams p.root) runs.well in
     subst (λ (e : Evaluated). IsComposed (tree_of e.diagrams e.root)) (sym c.program.view_is) is

@@ -29,8 +29,7 @@ invariant_of-result c =
       shapes = lanes.shapes;
       lists = sym (length-map _ _) ∙ lanes.lists.count;
       tasks_are = record { loops = r.tasks_are.loops; pairs = r.tasks_are.pairs; most_are = r.tasks_are.most_are ∙ c.vectors.ensures.value };
-      registers = r.registers;
-      rows = r.rows;
+      scratch = r.scratch;
       held_long = let q = ap (λ (steps : List Step). length steps) c.held.ensures in
           omega (arith, q, c.len.ensures, c.in_ok-held.ensures.len, c.in_ok-held.held.ok.0);
       crew = c.in_ok-crew.ensures.of_plan;

@@ -15,7 +15,10 @@ use Rattle.fv_pool.specs.Region.{cells_of}
 use Rattle.fv_split_plan.specs.Rows.{lists_of}
 use Rattle.fv_lines.specs.declared.shape.LaneShape.{LaneShape}
 use Rattle.fv_lines.specs.declared.shape.LaneState.{LaneState}
+use Rattle.fv_loopcode_machine.specs.declared.scratch.Scratch.{Scratch}
 use Rattle.fv_engine_tasks.specs.headline.Block.{vectors_of}
+use Rattle.fv_engine_tasks.specs.Jobs.{HaveScratch}
+use Rattle.fv_engine_crew.specs.Contents.{parts_of}
 use Rattle.fv_engine.specs.inner.Plans.{held_by, block_from}
 use Rattle.fv_engine.specs.Stands.{EngineView}
 use Rattle.fv_engine.specs.Stored.{view_of}
@@ -102,10 +105,7 @@ run-spread-requires-clause-may g c κs within =
       lists = cells_many call;
       job = job call b;
       real = first_is call b;
-      registers = λ j l. let q = c.self.invariant.registers j l in let r = ap (λ (v : Vec ℤ). length v.items) c.set_vectors.ensures.regs in
-          omega (arith, q, r);
-      rows = λ j l. let q = c.self.invariant.rows j l in let r = ap (λ (v : Vec ℤ). length v.items) c.set_vectors.ensures.rows in
-          omega (arith, q, r);
+      scratch = subst (λ (v : Vec Scratch). HaveScratch (parts_of c.self.inside.plan) v.items) (sym c.set_vectors.ensures.scratch) c.self.invariant.scratch;
       untold = c.set_vectors.ensures.lines;
     }
 
@@ -141,10 +141,7 @@ invariant_of-self g c =
       shapes = shapes g o;
       lists = c.run-spread.ensures.lanes.lists ∙ inv.lists;
       tasks_are = tasks_are g o;
-      registers = λ j l. let q = inv.registers j l in let r = ap (λ (v : Vec ℤ). length v.items) c.set_vectors.ensures.regs in
-          omega (arith, q, r, c.run-spread.ensures.runner.registers);
-      rows = λ j l. let q = inv.rows j l in let r = ap (λ (v : Vec ℤ). length v.items) c.set_vectors.ensures.rows in
-          omega (arith, q, r, c.run-spread.ensures.runner.rows);
+      scratch = c.run-spread.ensures.runner.scratch;
       held_long = ap length (held_is g b) ∙ many_held call;
       crew = crew_is g d.After-set_vectors c.run-spread.new.runner.tasks c.run-spread.ensures.runner.tasks;
       some_worker = inv.some_worker;

@@ -105,8 +105,7 @@ loop-i-preserved c =
         cells = h.cells;
         nothing_seen = h.nothing_seen;
         room = h.room;
-        regs = h.regs;
-        rows = h.rows;
+        scratch = h.scratch;
         lists = omega (arith, h.lists, c.loop-i-test.true, ap length items, length-append lists (list ∷ []));
         roomy = t.others;
       };

@@ -13,6 +13,8 @@ use Rattle.fv_lines.specs.declared.seen.Seen.{Seen}
 use Rattle.fv_engine_lanes.specs.Lanes.{state_in, AreLanesValid, LanesRest, rest_of_writer, rest_of_cells}
 use Rattle.fv_engine_lanes.specs.Renumbered.{renumbered}
 use Rattle.fv_split_plan.specs.headline.View.{code_of}
+use Rattle.fv_loopcode.specs.Words.{argument}
+use Rattle.fv_loopcode_machine.specs.Scratches.{Serves}
 use Rattle.fv_loopcode.specs.declared.step.Step.{Step}
 use Rattle.fv_loopcode.specs.Code.{IsWithin}
 use Rattle.fv_engine_lanes.specs.Plans.{own_lanes, lanes_of_all, sources_of, IsLocalCode}
@@ -23,7 +25,7 @@ use Rattle.fv_engine_parcels.specs.declared.content.Writers.{Writers}
 use Rattle.fv_engine_parcels.specs.declared.parcel.LoopParcel.{LoopParcel}
 use Rattle.fv_engine_parcels.proofs.lemmas.Edges.{outward_is, chain_is_at, pairs_of, pairs_out}
 use Rattle.fv_engine_parcels.proofs.Coming.{Came, came, Holds, holds, none_seen, vector_inside, edges_reverse, keys_reverse}
-use Rattle.fv_engine_parcels.proofs.Props.{within_prop, within_renumbered}
+use Rattle.fv_engine_parcels.proofs.Props.{within_prop, within_renumbered, serves_prop, serves_renumbered, serves_as_before}
 use Rattle.fv_engine_parcels.proofs.Tasking.{before_of, after_of, cells_after_of, upto_next}
 use Rattle.fv_engine_parcels.proofs.body.LoopBodyBodyLoopParcel.run.Goals as goal
 
@@ -142,8 +144,8 @@ run_code-requires-clause-valid c =
     let now : AreHandedOn k j v 0 c.deref_mut.result.now = subst (AreHandedOn k j v 0) (sym c.deref_mut.ensures.value) held.writers in
     subst (λ (w : Writers). AreLanesValid w.lanes) (sym c.deref_mut-2.ensures.value) now.cells.placed
 
-pub run_code-requires-clause-regs : goal.run_code-requires-clause-regs
-run_code-requires-clause-regs c =
+pub run_code-requires-clause-scratch : goal.run_code-requires-clause-scratch
+run_code-requires-clause-scratch c =
     let k : Start = c.args.self.now.start in
     let j : ℕ = c.args.task.loop_no in
     let v : ℕ = c.args.task.vector in
@@ -154,28 +156,13 @@ run_code-requires-clause-regs c =
     holds k j v c.remove.result c.remove.new.self.items c.in-Writers.writers.value _ c.requires.task.0 t
     (ap (map (λ (q : LoopParcel). q.edge)) c.as_slice.ensures.value) (c.into_content.ensures.writers c.in-Writers.writers c.in-Writers.is).1 in
     let now : AreHandedOn k j v 0 c.deref_mut.result.now = subst (AreHandedOn k j v 0) (sym c.deref_mut.ensures.value) held.writers in
-    ∥∥₁_elim c.args.self.now.body (ℕ_set (length c.deref_mut-2.result.now.regs.items) (length (slice_index_or c.args.self.now.codes.now j []))) (λ b.
-    ap (λ (w : Writers). length w.regs.items) c.deref_mut-2.ensures.value ∙ now.regs
-    ∙ sym (ap length (b.codes_are j c.requires.task.0).is ∙ length-map (code_of k.plan.now j) (renumbered (b.codes_are j c.requires.task.0).place)))
-
-pub run_code-requires-clause-rows : goal.run_code-requires-clause-rows
-run_code-requires-clause-rows c =
-    let k : Start = c.args.self.now.start in
-    let j : ℕ = c.args.task.loop_no in
-    let v : ℕ = c.args.task.vector in
-    let t : Came k j v c.remove.result c.remove.new.self.items =
-    came k j v c.args.parcels.now.items c.remove.result c.remove.new.self.items c.requires.task.0 c.requires.inward.edges_are c.requires.inward.keys
-    c.remove.ensures.value c.remove.ensures.by_index.2 in
-    let held : Holds k j v c.in-Writers.writers.value (map (λ (q : LoopParcel). q.edge) c.as_slice.result.now) =
-    holds k j v c.remove.result c.remove.new.self.items c.in-Writers.writers.value _ c.requires.task.0 t
-    (ap (map (λ (q : LoopParcel). q.edge)) c.as_slice.ensures.value) (c.into_content.ensures.writers c.in-Writers.writers c.in-Writers.is).1 in
-    let now : AreHandedOn k j v 0 c.deref_mut.result.now = subst (AreHandedOn k j v 0) (sym c.deref_mut.ensures.value) held.writers in
-    let there : length c.deref_mut-2.result.now.rows.items ≡ length (code_of k.plan.now j) * 32 =
-    ap (λ (w : Writers). length w.rows.items) c.deref_mut-2.ensures.value ∙ now.rows in
-    ∥∥₁_elim c.args.self.now.body le_prop (λ b.
-    let same : length (slice_index_or c.args.self.now.codes.now j []) ≡ length (code_of k.plan.now j) =
-    ap length (b.codes_are j c.requires.task.0).is ∙ length-map (code_of k.plan.now j) (renumbered (b.codes_are j c.requires.task.0).place) in
-    omega (arith, there, same))
+    let held_by = argument k.held.now in
+    ∥∥₁_elim c.args.self.now.body (serves_prop (slice_index_or c.args.self.now.codes.now j []) held_by c.deref_mut-2.result.now.scratch) (λ b.
+    ∥∥₁_elim now.scratch (serves_prop (slice_index_or c.args.self.now.codes.now j []) held_by c.deref_mut-2.result.now.scratch) (λ serves.
+    let local : IsLocalCode k.plan.now (tasks_in k) j (slice_index_or c.args.self.now.codes.now j []) = b.codes_are j c.requires.task.0 in
+    subst (λ (ss : List Step). Serves ss held_by c.deref_mut-2.result.now.scratch) (sym local.is)
+    (subst (λ (w : Writers). Serves (map (renumbered local.place) (code_of k.plan.now j)) held_by w.scratch) (sym c.deref_mut-2.ensures.value)
+    (serves_renumbered local.place (code_of k.plan.now j) held_by _ serves))))
 
 pub hand-requires-clause-chain : goal.hand-requires-clause-chain
 hand-requires-clause-chain c =
@@ -249,10 +236,11 @@ hand-requires-clause-writers c =
         c.gather.ensures.room,
         now.room,
       );
-      regs = ap (λ (w : Writers). length w.regs.items) c.deref_mut-3.ensures.value ∙ c.run_code.ensures.regs
-          ∙ ap (λ (w : Writers). length w.regs.items) c.deref_mut-2.ensures.value ∙ now.regs;
-      rows = ap (λ (w : Writers). length w.rows.items) c.deref_mut-3.ensures.value ∙ c.run_code.ensures.rows
-          ∙ ap (λ (w : Writers). length w.rows.items) c.deref_mut-2.ensures.value ∙ now.rows;
+      scratch = subst (λ (w : Writers). ∥ Serves (code_of k.plan.now j) (argument k.held.now) w.scratch ∥₁) (sym c.deref_mut-3.ensures.value)
+          (∥∥₁_map {B = Serves (code_of k.plan.now j) (argument k.held.now) c.run_code.new.writers.scratch} c.args.self.now.body (λ b.
+          let local : IsLocalCode k.plan.now (tasks_in k) j (slice_index_or c.args.self.now.codes.now j []) = b.codes_are j c.requires.task.0 in
+          serves_as_before local.place (code_of k.plan.now j) (argument k.held.now) c.run_code.new.writers.scratch
+          (subst (λ (ss : List Step). Serves ss (argument k.held.now) c.run_code.new.writers.scratch) local.is c.run_code.ensures.scratch)));
       lists = omega
           (arith, now.lists, step, ap length out, length-map ks (λ (i : ℕ). pair_edge (tasks_in k) i v), ap (λ (l : Vec (Vec Seen)). length l.items) lists);
       roomy = subst (λ (l : Vec (Vec Seen)). AreRoomy l.items (list_room (length own))) (sym lists) now.roomy;
