@@ -1,5 +1,6 @@
 -- What the first bytes say, which one transfer took.
-use Rattle.std.proofs.Common.{◌≡◌, ℕ, ◌+◌, ◌-◌, ◌≤◌, ◌<◌, List, [], ◌++◌, length, take, sym, ap, ◌∙◌, arith, Ok, Err, length-append, length-take, append_assoc, ⊎_elim}
+use Rattle.std.proofs.Common.{◌≡◌, ℕ, ◌+◌, ◌-◌, ◌≤◌, ◌<◌, List, [], ◌++◌, length, take, sym, ap}
+use Rattle.std.proofs.Common.{◌∙◌, arith, Ok, Err, length-append, length-take, append_assoc, ⊎_elim}
 use Rattle.std.specs.Prelude.{Result, IsTrue, IfOk, IfErr}
 use Rattle.std.proofs.lemmas.Bool.{cases_lt}
 use Rattle.std.proofs.lemmas.List.{append-nil}
@@ -35,7 +36,8 @@ same begun n to a b f t =
 
 pub front_ok : (begun : List ℕ) (n : ℕ) (to : List ℕ) (r : Result AuHead AuRefusal) (a b : DeskState) → IsFront begun n to a b
     → r ≡ head_of (begun ++ take n to) → IfOk r (λ _. 24 ≤ length (begun ++ take n to))
-    → IfOk r (λ head. Passes (24 - length begun) ((head_of (begun ++ a.left Input) ≡ Ok head) × (length (begun ++ a.left Input) ≡ 24 + length (b.left Input))) a b)
+    → IfOk r (λ head. Passes (24 - length begun) ((head_of (begun ++ a.left Input) ≡ Ok head)
+    × (length (begun ++ a.left Input) ≡ 24 + length (b.left Input))) a b)
 front_ok begun n to (Ok head) a b f e l =
     let long : length (take n to) + length begun ≡ 24 = omega (arith, length-append begun (take n to), length-take n to, f.asked, f.few, l) in
     record {

@@ -4,8 +4,8 @@ use Rattle.std.specs.Prelude.{Result, ◌⊎◌, nat_le, ◌&&◌}
 use Rattle.std.proofs.lemmas.Bool.{cases_lt, le-ltb, lt-ltb, le-leb, lt-leb}
 use Rattle.fv_base.specs.declared.limits.TheConstants.{MOST_CHANNELS}
 use Rattle.fv_au.specs.headline.Reading.{au, field}
-use Rattle.fv_au.specs.Cases.{HasBytes, HasOffset, IsEncoding, HasEncoding, AreChannels, HasChannels, fields_of, IsAuOutcome, HasOneAuOutcome, AuEndsAtItsLength}
-use Rattle.fv_au.specs.Cases.{no_offset, low_offset, no_encoding, other_encoding, no_channels, other_channels, cut_gap, samples}
+use Rattle.fv_au.specs.Cases.{HasBytes, HasOffset, IsEncoding, HasEncoding, AreChannels, HasChannels, fields_of, IsAuOutcome, HasOneAuOutcome}
+use Rattle.fv_au.specs.Cases.{AuEndsAtItsLength, no_offset, low_offset, no_encoding, other_encoding, no_channels, other_channels, cut_gap, samples}
 use Rattle.fv_au.specs.declared.head.AuHead.{AuHead}
 use Rattle.fv_au.specs.declared.refusal.AuRefusal.{AuRefusal}
 use Rattle.fv_au.specs.declared.refusal.AuRefusal.TheVariants.{ReadFault, AuFormat, AuTruncated, NoMemory}

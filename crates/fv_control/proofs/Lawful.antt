@@ -99,7 +99,8 @@ chosen P false x y f g = g
 
 good_script : (controls : List ControlInfo) (bytes : List ℕ) → AllGood controls 0 (script controls bytes)
 unfolding script
-good_script controls bytes = chosen (AllGood controls 0) (nat_le (length bytes) LONGEST_TEXT) (lines_say controls 0 1 (lines_of bytes)) (Err (TextTooLong Controls))
+good_script controls bytes = chosen (AllGood controls 0) (nat_le (length bytes) LONGEST_TEXT) (lines_say controls 0 1 (lines_of bytes))
+    (Err (TextTooLong Controls))
     (good_lines controls 0 1 (lines_of bytes)) tt
 
 pub lawful : IsLawful

@@ -7,7 +7,8 @@ use Rattle.fv_num.specs.headline.Words.{argument}
 use Rattle.fv_num.specs.headline.Frames.{Frame}
 use Rattle.fv_diagram.specs.declared.node.Primitive.{Primitive as Prim}
 use Rattle.fv_diagram.specs.declared.node.Primitive.TheVariants.{Wire, Cut, Mem, Prefix, Delay, Int, Attach, Point, ReadTable, WriteTable}
-use Rattle.fv_diagram.specs.headline.Diagram.{Diagram, Primitive, Constant, Control, Slot, Wave, Table, Bind, Par, Seq, Split, Merge, Rec, inputs, outputs, primitive_outputs}
+use Rattle.fv_diagram.specs.headline.Diagram.{Diagram, Primitive, Constant, Control, Slot, Wave, Table, Bind}
+use Rattle.fv_diagram.specs.headline.Diagram.{Par, Seq, Split, Merge, Rec, inputs, outputs, primitive_outputs}
 use Rattle.fv_diagram.specs.headline.Streams.{Stream, run, last, beside, dealt, merged, primitive_at}
 use Rattle.fv_diagram_number.specs.headline.Numbers.{is_timeless, silent, number_of}
 use Rattle.fv_diagram_number.specs.inner.Timeless.{given}

@@ -32,7 +32,8 @@ played_more d controls C X x y old new more long given so_far written =
     written ∙ ap (λ w. w ++ y) so_far ∙ sym samples
 
 -- the controls' frames are those of the streams
-pub played_heard : (d : Diagram) (changes : List Change) (initial : Frame) (n : ℕ) (X : List Frame) → AnswersAlike d → control_bound d ≤ length initial → length X ≡ n →
+pub played_heard : (d : Diagram) (changes : List Change) (initial : Frame) (n : ℕ) (X : List Frame) → AnswersAlike d →
+    control_bound d ≤ length initial → length X ≡ n →
     run d (column (table n (heard_at changes initial))) no_slots X ≡ run d (control_streams changes initial) no_slots X
 played_heard d changes initial n X same reads long =
     same (column (table n (heard_at changes initial))) (control_streams changes initial) no_slots no_slots X

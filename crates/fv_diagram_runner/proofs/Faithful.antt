@@ -1,9 +1,9 @@
 -- The runner meets the laws of the walk.
-use Rattle.std.proofs.Common.{◌≡◌, ◌⊎◌, ℕ, zero, suc, ◌+◌, ◌<◌, ◌≤◌, List, [], ◌∷◌, ◌++◌, length, get_or, take, map, refl, sym, ap, ap₂, ◌∙◌, subst}
-use Rattle.std.proofs.Common.{arith, All, pos, ℤ, Bool, true, false, replicate, inl, inr}
+use Rattle.std.proofs.Common.{◌≡◌, ◌⊎◌, ℕ, zero, suc, ◌+◌, ◌<◌, ◌≤◌, List, [], ◌∷◌, ◌++◌, length, get_or, take, map, refl}
+use Rattle.std.proofs.Common.{sym, ap, ap₂, ◌∙◌, subst, arith, All, pos, ℤ, Bool, true, false, replicate, inl, inr}
 use Rattle.std.specs.Prelude.{slice_set}
-use Rattle.std.proofs.lemmas.List.{get_or_append_left, get_or_push, length_push, length-append, length-set, length-take-le, length-take, get_or-take}
-use Rattle.std.proofs.lemmas.List.{get_or-append-add, get_or-set_same, get_or-set_other, take-map}
+use Rattle.std.proofs.lemmas.List.{get_or_append_left, get_or_push, length_push, length-append, length-set, length-take-le}
+use Rattle.std.proofs.lemmas.List.{length-take, get_or-take, get_or-append-add, get_or-set_same, get_or-set_other, take-map}
 use Rattle.std.proofs.lemmas.List.Elements.{All-weaker, All-cons, All-head, All-tail}
 use Rattle.fv_base.specs.headline.Lists.{IsPrefixOf}
 use Rattle.fv_base.proofs.lemmas.Lists.{prefix_trans, length_table, table_same, map_table, get_or_table}
@@ -28,7 +28,8 @@ use Rattle.fv_diagram.specs.Walked.{primitive, one}
 use Rattle.fv_diagram_runner.specs.declared.step.Change.{Change}
 use Rattle.fv_diagram_runner.specs.declared.step.Change.TheVariants as change
 use Rattle.fv_diagram_runner.specs.Steps.{step_at, wires, AreOrdered}
-use Rattle.fv_diagram_runner.specs.inner.Code.{Code, HasLoops, put, put_cell, put_back, put_prefix, put_read, put_write, with_step, with_list, with_cells, leaf_of, opened_of, closed_of}
+use Rattle.fv_diagram_runner.specs.inner.Code.{Code, HasLoops, put, put_cell, put_back, put_prefix, put_read, put_write}
+use Rattle.fv_diagram_runner.specs.inner.Code.{with_step, with_list, with_cells, leaf_of, opened_of, closed_of}
 use Rattle.fv_diagram.specs.Hooks.{padded}
 use Rattle.fv_diagram_runner.specs.inner.Code.{shut, written, counted_of, tabled_of, runner_hooks}
 use Rattle.fv_diagram.proofs.lemmas.Causality.{delayed_same, back_same}
@@ -194,7 +195,12 @@ module _ (F : Code) (ordered : AreOrdered F.steps) (c x : ℕ → Stream) where
 
   -- one step more
   before_step : (s : Code) (a : Step) → GoesOn F (with_step s a) → GoesOn F s
-  before_step s a g = record { steps = prefix_trans s.steps (s.steps ++ a ∷ []) F.steps (prefix_snoc s.steps a) g.steps; lists = g.lists; cells = g.cells; same = g.same }
+  before_step s a g = record {
+    steps = prefix_trans s.steps (s.steps ++ a ∷ []) F.steps (prefix_snoc s.steps a) g.steps;
+    lists = g.lists;
+    cells = g.cells;
+    same = g.same;
+  }
 
   step_gives : (s : Code) (a : Step) → GoesOn F (with_step s a) → (t : ℕ) → v (length s.steps) t ≡ step_at F.sources F.lists c x v a t
   unfolding v

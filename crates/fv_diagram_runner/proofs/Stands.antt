@@ -1,5 +1,6 @@
 -- A runner that stands for a diagram gives the last frame of the diagram's answer.
-use Rattle.std.proofs.Common.{◌≡◌, ℕ, zero, suc, ◌<◌, List, [], ◌∷◌, ◌++◌, length, get_or, map, refl, sym, ap, ap₂, ◌∙◌, subst, arith, All, ℤ, pos, negsuc, inl, inr}
+use Rattle.std.proofs.Common.{◌≡◌, ℕ, zero, suc, ◌<◌, List, [], ◌∷◌, ◌++◌, length, get_or, map}
+use Rattle.std.proofs.Common.{refl, sym, ap, ap₂, ◌∙◌, subst, arith, All, ℤ, pos, negsuc, inl, inr}
 use Rattle.std.proofs.lemmas.Bool.{cases_lt}
 use Rattle.std.proofs.lemmas.List.{get_or_append_left, get_or_push, get_or_default, length-set}
 use Rattle.std.proofs.lemmas.List.Elements.{All-push, All-get_or, All-head, All-tail}
@@ -20,8 +21,8 @@ use Rattle.fv_diagram_runner.specs.declared.step.Change.TheVariants as change
 use Rattle.fv_diagram.specs.headline.Diagram.{Diagram, inputs}
 use Rattle.fv_diagram.proofs.lemmas.Causality.{run_closed, column_same, back_same}
 use Rattle.fv_diagram.specs.headline.Streams.{run, last}
-use Rattle.fv_diagram_runner.specs.Steps.{step_value, recalled, in_lists, in_streams, registers, step_at, wires, RunnerState, registers_of, next_of, given_of, changed}
-use Rattle.fv_diagram_runner.specs.Steps.{lists_after, listed, all_listed, StandsFor, ReadsWithin, IsKept, IsBegun, IsRunner}
+use Rattle.fv_diagram_runner.specs.Steps.{step_value, recalled, in_lists, in_streams, registers, step_at, wires, RunnerState, registers_of, next_of}
+use Rattle.fv_diagram_runner.specs.Steps.{given_of, changed, lists_after, listed, all_listed, StandsFor, ReadsWithin, IsKept, IsBegun, IsRunner}
 use Rattle.fv_diagram.specs.Wires.{no_slots}
 use Rattle.fv_diagram.proofs.lemmas.Lists.{last_snoc}
 use Rattle.fv_diagram.proofs.lemmas.Carried.{wired_answers}
@@ -107,7 +108,8 @@ module _ (sources : List ℕ) (lists begun : List (List ℤ)) (c x : ℕ → Str
   numbers_registers t past now [] k = refl
   numbers_registers t past now (s ∷ ss) k =
       let cells = argument (map (λ w. delayed (past w) t) sources) in
-      let here : step_at sources begun c x (at_time t past now) s t ≡ step_value (λ k. c k t) (λ i. x i t) cells (in_lists lists (argument now)) (argument now) s =
+      let here : step_at sources begun c x (at_time t past now) s t
+      ≡ step_value (λ k. c k t) (λ i. x i t) cells (in_lists lists (argument now)) (argument now) s =
       ap₂ (λ cell register. step_value (λ k. c k t) (λ i. x i t) cell (in_streams begun (at_time t past now) t) register s)
       (ap (λ f. argument (map f sources)) (fun_ext (delayed_at_time t past now))) (fun_ext (at_now t past now))
       ∙ recalls (λ k. c k t) (λ i. x i t) cells t past now s (All-head (Knows lists begun past t) s ss k) in
@@ -136,7 +138,8 @@ module _ (m : RunnerState) (d : Diagram) (C X : List Frame) (controls frame : Li
   before : ℕ → Stream
   before = streams_before (step_at m.sources stands.begun c' x') m.steps (length X)
 
-  steps_agree : (u : ℕ → Stream) (s : Step) (t : ℕ) → t < length X → step_at m.sources stands.begun c' x' u s t ≡ step_at m.sources stands.begun (column C) (column X) u s t
+  steps_agree : (u : ℕ → Stream) (s : Step) (t : ℕ) → t < length X → step_at m.sources stands.begun c' x' u s t
+      ≡ step_at m.sources stands.begun (column C) (column X) u s t
   unfolding c' x'
   steps_agree u s t l =
       ap₂ (λ control input. step_value control input (argument (map (λ w. delayed (u w) t) m.sources)) (in_streams stands.begun u t) (λ w. u w t) s)
@@ -144,7 +147,8 @@ module _ (m : RunnerState) (d : Diagram) (C X : List Frame) (controls frame : Li
 
   wires_agree : (w t : ℕ) → t < length X → v' w t ≡ v w t
   unfolding v v'
-  wires_agree w t l = valuation_same (step_at m.sources stands.begun c' x') (step_at m.sources stands.begun (column C) (column X)) m.steps (length X) steps_agree w t l
+  wires_agree w t l = valuation_same (step_at m.sources stands.begun c' x') (step_at m.sources stands.begun (column C) (column X)) m.steps (length X)
+      steps_agree w t l
 
   before_agrees : (w t : ℕ) → t < length X → before w t ≡ v w t
   unfolding v v' before

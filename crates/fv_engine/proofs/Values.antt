@@ -205,7 +205,8 @@ module _ {e : EngineView} {n : ℕ} {controls : List ℤ} {g : Graph} {X : List 
     number l k i m =
         let hist = (lane_info p l).history in
         ap (λ (xs : List ℤ). argument xs k) (items l i) ∙ get_or_table hist (λ k. back (was l) (length X + k) (pos hist)) k (pos 0) m
-        ∙ back_past (was l) (v l) (length X) hist k m (value_before (s.names.lane l)) ∙ ap (λ (x : ℕ). back (v l) (length X + k) (pos x)) (sym (s.histories l i))
+        ∙ back_past (was l) (v l) (length X) hist k m (value_before (s.names.lane l))
+        ∙ ap (λ (x : ℕ). back (v l) (length X + k) (pos x)) (sym (s.histories l i))
 
     begun_just : (l : ℕ) → l < length p.lanes → HoldsJust f l (before e.vector n 0) (n - before e.vector n 0) (lane_of first.lanes l)
     begun_just l i =

@@ -82,5 +82,6 @@ plan_roles p j plan there =
     let names = plan.1.stands.names in
     let none : List Frame = [] in
     let quiet : ℕ → Stream = λ k t. pos 0 in
-    have_roles (roles_of p j) names.history (flowing (flows plan.0 names none quiet) 0) (flowing_next (flows plan.0 names none quiet) 0) (λ k. value plan.0 (names.held k) none quiet 0)
+    have_roles (roles_of p j) names.history (flowing (flows plan.0 names none quiet) 0) (flowing_next (flows plan.0 names none quiet) 0)
+    (λ k. value plan.0 (names.held k) none quiet 0)
     (λ i. column none i 0) nothing [] (code_of p j) (plan.1.stands.obeys j there none quiet 0)

@@ -137,7 +137,10 @@ cycle_action_sync = enum_sync (E.shape cycle_action.the_type) ((
                                   (pair_sync, tt),
                                   (
                                     (pair_sync, tt),
-                                    ((search sendable, (search sendable, tt)), ((search sendable, (search sendable, tt)), ((search sendable, (search sendable, tt)), (tt, tt)))),
+                                    (
+                                      (search sendable, (search sendable, tt)),
+                                      ((search sendable, (search sendable, tt)), ((search sendable, (search sendable, tt)), (tt, tt))),
+                                    ),
                                   ),
                                 ),
                               ),

@@ -38,7 +38,8 @@ pub(crate) fn run_begun<'a, 'b, R: Threads + Wait + Sync, G: Gate + Sync>(
     requires begun { AreOpen (block_in block.now) block.now.plan.now.tables buffers.begun.items lists.old.items }
     requires none { lines.old.items ≡ [] }
     requires room { task_count (tasks_of block.now) ≤ vec_capacity lines.old }
-    ensures whole { IfOk result (λ v. AreWhole (block_in block.now) block.now.plan.now.tables buffers.entry.begun.items v.items lists.old.items lists.new.items) }
+    ensures whole { IfOk result (λ v. AreWhole (block_in block.now) block.now.plan.now.tables buffers.entry.begun.items v.items
+        lists.old.items lists.new.items) }
     ensures journal { OnOk result (IsOrdered (tasks_of block.now) lines.new.items) }
     ensures count { OnOk result (length lines.new.items ≡ task_count (tasks_of block.now)) }
     ensures who { OnOk result (All (λ (line : Line). line.worker < block.now.workers) lines.new.items) }

@@ -1,4 +1,5 @@
--- What calls say beside `headline/Files`: a diagram that is played from an input to an output, block by block (RIFF WAVE 1991; Sun audio; this project's profile).
+-- What calls say beside `headline/Files`: a diagram that is played from an input to an output, block by block (RIFF WAVE 1991; Sun audio;
+-- this project's profile).
 use Rattle.std.specs.Prelude.{◌≡◌, ◌⊎◌, ℕ, ◌+◌, ◌*◌, ◌<◌, ◌≤◌, IsTrue, IsSome, List, [], ◌++◌, length, take, drop, flat_map, Option, Some, None}
 use Rattle.fv_base.specs.declared.role.Role.TheVariants.{Input, Output}
 use Rattle.fv_base.specs.headline.Lists.{IsPrefixOf}

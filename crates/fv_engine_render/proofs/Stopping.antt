@@ -11,7 +11,8 @@ use Rattle.fv_engine_render.proofs.Streaming.{Start, Come, Streamed, fit_none}
 use Rattle.fv_engine_render.proofs.Told.{ran_none, room_none, still_told}
 
 -- before its first block
-pub stops_first : (e : EngineView) (s : RunSizes) (changes : List Change) (initial : List ℤ) (told : Option Told) (Stopped : (heard said : List ℤ) → Act → Type 0)
+pub stops_first : (e : EngineView) (s : RunSizes) (changes : List Change) (initial : List ℤ) (told : Option Told)
+    (Stopped : (heard said : List ℤ) → Act → Type 0)
     → Stopped [] [] Beginning → HasStopped e s changes initial told told Stopped
 stops_first e s changes initial told Stopped stopped = record {
   frame = 0;

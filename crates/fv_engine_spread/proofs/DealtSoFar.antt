@@ -39,7 +39,15 @@ pub record HasOneMore (w : LaneWriter) (old new : Writers) : Type 0 where
 module _ (p : PlanView) (all : List LaneWriter) where
   pub none_dealt : (g : Tasks) (places : CellPlaces) (rooms : List (Box Writers)) → AreRooms p g places rooms → AreDealtSoFar p all 0 rooms rooms
   none_dealt g places rooms a j d l =
-      let r = a.each j d l in record { count = ap length r.nothing; own = λ e. r.nothing; room = r.own_room; seen = refl; cells = refl; scratch = refl; lists = refl }
+      let r = a.each j d l in record {
+        count = ap length r.nothing;
+        own = λ e. r.nothing;
+        room = r.own_room;
+        seen = refl;
+        cells = refl;
+        scratch = refl;
+        lists = refl;
+      }
 
   -- there is room for the next lane
   pub room_for_next : (n : ℕ) (old new : Writers) → n < length p.lanes → IsDealtSoFar p all n (lane_info p n).owner old new

@@ -110,7 +110,8 @@ body_waits p m n r d s a e left
     bind_shows p m1 s name (value.Diagram number) e inner x (Flat (Constant i)) E place is named (drawn_is.inside, drawn_is.is ∙ ap Constant index_is) env1 in
     let F : Continuation = Drawn (Body q x b E (suc (length done.items)) left1 ds) in
     let waits : ShowsForDiagram (world p m2) (drawn.Body a e left1 done) (Body q x b E (suc (length done.items)) left1 ds) =
-    for_diagram_grows (world p m) (world p m2) grew.lists (drawn.Body a e left1 done) (Body q x b E (suc (length done.items)) left1 ds) (h, refl, refl, indexed) in
+    for_diagram_grows (world p m) (world p m2) grew.lists (drawn.Body a e left1 done) (Body q x b E (suc (length done.items)) left1 ds)
+    (h, refl, refl, indexed) in
     let shown : tree_in p body ≡ b = body_is ∙ sym (same_body h.s t0 q q0 h.n y0 h.count c0 b b0 node_is) in
     let step = wait F b (Bound x (Flat (Constant i)) E) waits (inside, shown) bound in
     subst (λ (j : ℕ). Steps p m n r (λ Fs t. next_body q x b E (length done.items) j ds Fs t)) (sym one)

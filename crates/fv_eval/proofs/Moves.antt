@@ -38,7 +38,12 @@ grew_on p a b c g h = record {
 }
 
 pub grew_itself : (p : Parsed) (m : code_machine.Machine) → Grew p m m
-grew_itself p m = record { lists = record { tree = refl; diagrams = λ i d h. h; scopes = λ i x h. h; taken = λ i x h. h }; continuations = refl; state = refl; knows = λ k. k }
+grew_itself p m = record {
+  lists = record { tree = refl; diagrams = λ i d h. h; scopes = λ i x h. h; taken = λ i x h. h };
+  continuations = refl;
+  state = refl;
+  knows = λ k. k;
+}
 
 -- diagrams were put
 pub drawn_grows : (p : Parsed) (m : code_machine.Machine) (new : Canvas) → Extends m.drawing new

@@ -91,7 +91,8 @@ flat_value (Ok x) v s e =
     (x.0, sym (ap (λ (q : Value × State). q.0) both))
 flat_value (Err r) v s e = absurd (cc)
 
-diagram_shown : (p : Parsed) (m : code_machine.Machine) (u : code_value.Value) (d : Diagram) → ShowsValue (world p m) u (Flat d) → (i : ℕ) × (u ≡ value.Diagram i)
+diagram_shown : (p : Parsed) (m : code_machine.Machine) (u : code_value.Value) (d : Diagram) → ShowsValue (world p m) u (Flat d) →
+    (i : ℕ) × (u ≡ value.Diagram i)
 diagram_shown p m (value.Diagram i) d h = (i, refl)
 diagram_shown p m u d h = absurd h
 

@@ -124,7 +124,8 @@ pub abstraction_turns : (p : Parsed)
     → slots ≡ count - bound → AreNumbered m.slot slots
     → body < size_of p → tree_in p body ≡ body_in (tree_in p f)
     → Turns p m (record m1 { continuations = gs }) (Ok (focus.Visit body inner)) g (value.Abstraction f bound env)
-abstraction_turns p m m1 fs gs g f bound env count inner body slots counted taken shows first second many numbered inside is F (Abstraction x xs b E) h k Fs kept =
+abstraction_turns p m m1 fs gs g f bound env count inner body slots counted taken shows first second many numbered inside is F (Abstraction x xs b E)
+    h k Fs kept =
     let names = parameters_in p.tokens (tree_in p f) in
     let n : code_machine.Machine = record m1 { continuations = gs } in
     let old = world p m in

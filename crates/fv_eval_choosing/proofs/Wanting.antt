@@ -1,6 +1,6 @@
 -- What rules want at positions, and the rules that are left.
-use Rattle.std.proofs.Common.{◌≡◌, ◌⊎◌, ℕ, zero, suc, ◌+◌, ◌<◌, ◌≤◌, arith, Bool, true, false, cond, List, [], ◌∷◌, ◌++◌, length, take, get_or, filter, slice_get}
-use Rattle.std.proofs.Common.{Option, Some, None, option_map, All, inl, inr, refl, sym, ap, subst, ◌∙◌}
+use Rattle.std.proofs.Common.{◌≡◌, ◌⊎◌, ℕ, zero, suc, ◌+◌, ◌<◌, ◌≤◌, arith, Bool, true, false, cond, List, [], ◌∷◌, ◌++◌, length, take}
+use Rattle.std.proofs.Common.{get_or, filter, slice_get, Option, Some, None, option_map, All, inl, inr, refl, sym, ap, subst, ◌∙◌}
 use Rattle.std.proofs.lemmas.Bool.{cases_lt, eq-eqb, eqb-true, false≢true}
 use Rattle.std.proofs.lemmas.List.{length-map, take_more}
 use Rattle.std.proofs.lemmas.List.Elements.{All-append, All-cons, All-nil, filter-append}
@@ -61,7 +61,8 @@ pub sorts_begin : (rules : List Rule) (x : Path) (free : List ℕ) (ws : List Wa
 sorts_begin rules x free ws = record { free_ones = λ j r l. absurd (omega (arith, l)); others = λ j k r l. absurd (omega (arith, l)) }
 
 -- the rule that a node is
-pub rule_here : (p : Parsed) (ids : List TreeId) (i : ℕ) (id : TreeId) → slice_get ids i ≡ Some id → slice_get (rules_at p ids) i ≡ Some (rule_of (tree_in p id))
+pub rule_here : (p : Parsed) (ids : List TreeId) (i : ℕ) (id : TreeId) → slice_get ids i ≡ Some id →
+    slice_get (rules_at p ids) i ≡ Some (rule_of (tree_in p id))
 rule_here p ids i id e = slice_get-map (λ (n : TreeId). rule_of (tree_in p n)) ids i ∙ ap (option_map (λ (n : TreeId). rule_of (tree_in p n))) e
 
 -- a rule that wants nothing
@@ -181,7 +182,8 @@ pub record IsFound (x : Path) (us : List code_value.Value) (a : Arena) (id part 
 
 pub key_found : {x : Path} {us : List code_value.Value} {a : Arena} {id part key : ℕ} → IsFound x us a id part key → (w : World) (vs : List Value)
     → w.diagrams ≡ a → ShowsValues w us vs → key_at x vs ≡ Some key
-key_found {x} {us} {a} {id} {part} {key} found w vs same shown = let at = argument_there w us vs x.argument (value.Diagram id) shown found.got in go at.0 at.1 at.2
+key_found {x} {us} {a} {id} {part} {key} found w vs same shown = let at =
+    argument_there w us vs x.argument (value.Diagram id) shown found.got in go at.0 at.1 at.2
   where
     go : (v : Value) → slice_get vs x.argument ≡ Some v → ShowsValue w (value.Diagram id) v → key_at x vs ≡ Some key
     go (Flat d) e h =

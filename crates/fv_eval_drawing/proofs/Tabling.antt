@@ -1,6 +1,6 @@
 -- The rule of tables, line by line.
-use Rattle.std.proofs.Common.{inl, inr, ◌≡◌, ℕ, zero, suc, ◌+◌, ◌*◌, ◌≤◌, ◌<ℤ◌, ◌≤ℤ◌, nat_abs, Bool, true, false, List, [], ◌∷◌, Result, Ok, Err, ℤ}
-use Rattle.std.proofs.Common.{pos, negsuc, refl, sym, ap, ap₂, subst, ◌∙◌, ◌<◌, arith}
+use Rattle.std.proofs.Common.{inl, inr, ◌≡◌, ℕ, zero, suc, ◌+◌, ◌*◌, ◌≤◌, ◌<ℤ◌, ◌≤ℤ◌, nat_abs, Bool, true, false, List}
+use Rattle.std.proofs.Common.{[], ◌∷◌, Result, Ok, Err, ℤ, pos, negsuc, refl, sym, ap, ap₂, subst, ◌∙◌, ◌<◌, arith}
 use Rattle.std.specs.Prelude.{nat_eq, nat_le, if◌then◌else◌}
 use Rattle.std.specs.List.{list_all}
 use Rattle.std.proofs.lemmas.Bool.{and_parts, eqb-true, eq-eqb}
@@ -18,8 +18,8 @@ use Rattle.fv_diagram_head.proofs.lemmas.Outputs.{cut_outputs, parts_outputs}
 use Rattle.fv_rules.specs.declared.refusal.EvalRefusal.{EvalRefusal}
 use Rattle.fv_rules.specs.declared.refusal.EvalRefusal.TheVariants.{Arity, SizeBudget, TableForm}
 use Rattle.fv_rules.specs.declared.refusal.TableCause.TheVariants as cause
-use Rattle.fv_rules.specs.headline.Steps.{Eval, Outcome, State, after, ◌>>=◌, give, grow, misfit, put, put_after, refuse, side_by_side, sized, table_size, tabled, tabled_by}
-use Rattle.fv_rules.specs.headline.Steps.{tabled_of, unless}
+use Rattle.fv_rules.specs.headline.Steps.{Eval, Outcome, State, after, ◌>>=◌, give, grow, misfit, put, put_after}
+use Rattle.fv_rules.specs.headline.Steps.{refuse, side_by_side, sized, table_size, tabled, tabled_by, tabled_of, unless}
 use Rattle.fv_rules.specs.Puts.{Puts}
 use Rattle.fv_rules.specs.headline.Rules.{from_right, start}
 use Rattle.fv_eval_drawing.specs.declared.lists.Link.TheVariants as link

@@ -10,21 +10,20 @@ use Rattle.fv_rules.specs.Primitive.TheVariants as prim
 use Rattle.fv_rules.specs.Diagram.{Diagram, Primitive, Constant, Seq}
 use Rattle.fv_rules.specs.ControlKind.{ControlKind}
 use Rattle.fv_rules.specs.Trees.{text_of, label_of}
-use Rattle.fv_rules.specs.headline.Values.{Name, Value, Flat, Abstraction, Rules, Env, Outermost, Bound, Scope, And, Definition, Plain, Parameters, Cases, Meaning}
-use Rattle.fv_rules.specs.headline.Values.{IsValue, IsDefined, Unknown, lookup, in_order, count_taken}
+use Rattle.fv_rules.specs.headline.Values.{Name, Value, Flat, Abstraction, Rules, Env, Outermost, Bound, Scope, And, Definition, Plain}
+use Rattle.fv_rules.specs.headline.Values.{Parameters, Cases, Meaning, IsValue, IsDefined, Unknown, lookup, in_order, count_taken}
 use Rattle.fv_rules.specs.Numbers.{number_of}
 use Rattle.fv_rules.specs.headline.Matching.{Bindings, settled, value_number, bound_in, chosen}
 use Rattle.fv_rules.specs.headline.Steps.{State, Outcome, Eval, after, ◌>>=◌, give, spent, put, control}
-use Rattle.fv_rules.specs.headline.Rules.{waveform, switch_kind, slider_kind, flat, on_slots, bind_all, turned, operated, joined, defined_value, meant, name_value, arguments}
-use Rattle.fv_rules.specs.headline.Rules.{all_turned, fed, width, selected, applied, bodies, gathered, counted, read_number, parameters, slider_info, switch_info}
-use Rattle.fv_rules.specs.headline.Rules.{abstraction, rule, ev}
+use Rattle.fv_rules.specs.headline.Rules.{waveform, switch_kind, slider_kind, flat, on_slots, bind_all, turned, operated, joined}
+use Rattle.fv_rules.specs.headline.Rules.{defined_value, meant, name_value, arguments, all_turned, fed, width, selected, applied, bodies}
+use Rattle.fv_rules.specs.headline.Rules.{gathered, counted, read_number, parameters, slider_info, switch_info, abstraction, rule, ev}
 use Rattle.fv_rules.specs.Rules.{FollowsValue, FollowsDiagram}
-use Rattle.fv_eval_machine.specs.Machine.{ForValue, Function, Argument, Leftover, Parameter, ForDiagram, Left, Right, Later, Negated, Ports, Binding, Turning}
-use Rattle.fv_eval_machine.specs.Machine.{Counting, Body, Finish, Continuation, Valued, Drawn, Visit, Call, Give, Config, Running, Ended}
-use Rattle.fv_eval_machine.specs.Machine.{valued, drawn, resumed, unwound}
-use Rattle.fv_eval_machine.specs.Machine.{meaning, given, begin_definition, begin_name, begin_abstraction, next_parameter, begin, visiting, calling, next_turned}
-use Rattle.fv_eval_machine.specs.Machine.{select, apply, next_argument, next_body, first_body, parameter_read, value_arrives, diagram_arrives, to_diagram, arrives}
-use Rattle.fv_eval_machine.specs.Machine.{step, first}
+use Rattle.fv_eval_machine.specs.Machine.{ForValue, Function, Argument, Leftover, Parameter, ForDiagram, Left, Right, Later, Negated, Ports, Binding}
+use Rattle.fv_eval_machine.specs.Machine.{Turning, Counting, Body, Finish, Continuation, Valued, Drawn, Visit, Call, Give, Config, Running, Ended}
+use Rattle.fv_eval_machine.specs.Machine.{valued, drawn, resumed, unwound, meaning, given, begin_definition, begin_name, begin_abstraction}
+use Rattle.fv_eval_machine.specs.Machine.{next_parameter, begin, visiting, calling, next_turned, select, apply, next_argument, next_body, first_body}
+use Rattle.fv_eval_machine.specs.Machine.{parameter_read, value_arrives, diagram_arrives, to_diagram, arrives, step, first}
 
 after_after : {A B C : Type 0} (r : Outcome A) (f : A → Eval B) (g : B → Eval C) → after (after r f) g ≡ after r (λ x. f x >>= g)
 after_after (Ok x) f g = refl

@@ -1,6 +1,6 @@
 -- Evaluation by a machine that keeps its pending work in a list (this project's profile).
-use Rattle.std.specs.Prelude.{◌≡◌, ℕ, zero, suc, ◌+◌, nat_lt, List, [], ◌∷◌, ◌++◌, length, map, codes, ℤ, pos, neg_ℤ, Option, Some, None, Ok, Err}
-use Rattle.std.specs.Prelude.{if◌then◌else◌}
+use Rattle.std.specs.Prelude.{◌≡◌, ℕ, zero, suc, ◌+◌, nat_lt, List, [], ◌∷◌, ◌++◌, length, map}
+use Rattle.std.specs.Prelude.{codes, ℤ, pos, neg_ℤ, Option, Some, None, Ok, Err, if◌then◌else◌}
 use Rattle.fv_rules.specs.Token.{Lexed}
 use Rattle.fv_rules.specs.Words.{wrap}
 use Rattle.fv_rules.specs.Op.TheVariants as op
@@ -14,13 +14,14 @@ use Rattle.fv_rules.specs.Diagram.{Diagram, Primitive, Constant, Seq}
 use Rattle.fv_rules.specs.ControlKind.{ControlKind}
 use Rattle.fv_rules.specs.declared.refusal.EvalRefusal.TheVariants.{UnknownName}
 use Rattle.fv_rules.specs.Trees.{text_of, label_of}
-use Rattle.fv_rules.specs.headline.Values.{Name, Value, Flat, Abstraction, Rules, Env, Outermost, Bound, Scope, Nothing, And, Definition, Plain, Parameters, Cases}
-use Rattle.fv_rules.specs.headline.Values.{Meaning, IsValue, IsDefined, Unknown, lookup, rule_of, in_order, count_taken}
+use Rattle.fv_rules.specs.headline.Values.{Name, Value, Flat, Abstraction, Rules, Env, Outermost, Bound, Scope, Nothing, And, Definition, Plain}
+use Rattle.fv_rules.specs.headline.Values.{Parameters, Cases, Meaning, IsValue, IsDefined, Unknown, lookup, rule_of, in_order, count_taken}
 use Rattle.fv_rules.specs.Numbers.{number_of}
 use Rattle.fv_rules.specs.headline.Matching.{Bindings, settled, value_number, bound_in, chosen}
 use Rattle.fv_rules.specs.headline.Steps.{State, Outcome, Eval, ◌>>=◌, give, no_rule, no_diagram, spent, put, control}
-use Rattle.fv_rules.specs.headline.Rules.{waveform, primitive_of, switch_kind, slider_kind, Evaluator, flat, on_slots, bind_all, turned, operated, joined, name_value, arguments}
-use Rattle.fv_rules.specs.headline.Rules.{all_turned, fed, width, applied, bodies, gathered, counted, ports, read_number, parameters, slider_info, switch_info, ev}
+use Rattle.fv_rules.specs.headline.Rules.{waveform, primitive_of, switch_kind, slider_kind, Evaluator, flat, on_slots, bind_all}
+use Rattle.fv_rules.specs.headline.Rules.{turned, operated, joined, name_value, arguments, all_turned, fed, width, applied}
+use Rattle.fv_rules.specs.headline.Rules.{bodies, gathered, counted, ports, read_number, parameters, slider_info, switch_info, ev}
 
 -- What waits for a value.
 pub data ForValue : Type 0 where

@@ -6,7 +6,8 @@ ghost use Rattle.fv_diagram.specs.headline.Diagram.{Diagram};
 ghost use Rattle.fv_diagram.specs.Arena.{Arena, count_of, tree_of};
 ghost use Rattle.fv_eval_scopes.specs.Memo.{Remembers};
 ghost use Rattle.fv_eval_patterns.specs.Bits.{has};
-ghost use Rattle.fv_eval_patterns.specs.Shapes.{Denies, IsRowed, IsSeen, IsShape, IsStep, IsSurvey, IsThere, Never, Sees, SeesParts, marked, DeniesParts, HasNoOther};
+ghost use Rattle.fv_eval_patterns.specs.Shapes.{Denies, IsRowed, IsSeen, IsShape, IsStep, IsSurvey, IsThere};
+ghost use Rattle.fv_eval_patterns.specs.Shapes.{Never, Sees, SeesParts, marked, DeniesParts, HasNoOther};
 ghost use Rattle.fv_eval_patterns.specs.Trials.{Says};
 
 use crate::bits::Bits;

@@ -1,6 +1,7 @@
--- What calls say beside `headline/Tapes`: what was heard of an input and said to an output, and how that stops (RIFF WAVE 1991; Sun audio; this project's profile).
-use Rattle.std.specs.Prelude.{◌≡◌, ◌≢◌, ◌⊎◌, ℕ, true, ◌+◌, ◌*◌, ◌/◌, ◌^◌, ◌<◌, ◌≤◌, IsTrue, List, [], ◌∷◌, ◌++◌, length}
-use Rattle.std.specs.Prelude.{drop, flat_map, ℤ, Option, Some, None, option_map}
+-- What calls say beside `headline/Tapes`: what was heard of an input and said to an output, and how that stops (RIFF WAVE 1991; Sun audio;
+-- this project's profile).
+use Rattle.std.specs.Prelude.{◌≡◌, ◌≢◌, ◌⊎◌, ℕ, true, ◌+◌, ◌*◌, ◌/◌, ◌^◌, ◌<◌, ◌≤◌, IsTrue, List, []}
+use Rattle.std.specs.Prelude.{◌∷◌, ◌++◌, length, drop, flat_map, ℤ, Option, Some, None, option_map}
 use Rattle.std.specs.Option.{ForSome}
 use Rattle.fv_base.specs.declared.limits.TheConstants.{MOST_CHANNELS}
 use Rattle.fv_base.specs.declared.role.Role.{Role}

@@ -32,4 +32,5 @@ valid_now n workers arrived took amount s h =
 
 pub valid_after : (n : Net) (net : IsNet n) (workers : ℕ) (s : Now) (e : Event) → IsValid n workers s → is_legal n s e ≡ true → IsValid n workers (after n s e)
 valid_after n net workers s e h legal = let r = steps n net workers (arrived_of n s) (took_of s) (amount_of s) s e h legal in
-    valid_now n workers r.0 (λ t. took_of s t + Rattle.fv_graph_core.specs.Core.takes t e) (amount_of s + Rattle.fv_graph_core.specs.Core.is_take e) (after n s e) r.1
+    valid_now n workers r.0 (λ t. took_of s t + Rattle.fv_graph_core.specs.Core.takes t e) (amount_of s + Rattle.fv_graph_core.specs.Core.is_take e)
+    (after n s e) r.1

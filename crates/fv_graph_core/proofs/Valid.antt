@@ -1,6 +1,6 @@
 -- The invariant of the core, and that each legal event keeps it.
-use Rattle.std.proofs.Common.{◌≡◌, ℕ, ◌+◌, ◌-◌, ◌<◌, ◌≤◌, Bool, true, false, cond, not, ◌&&◌, List, [], ◌∷◌, ◌++◌, length, get_or, set, refl}
-use Rattle.std.proofs.Common.{sym, ap, ◌∙◌, subst, arith, true≢false, ◌==◌, Option, Some, None, is_none, length-set, eq-eqb}
+use Rattle.std.proofs.Common.{◌≡◌, ℕ, ◌+◌, ◌-◌, ◌<◌, ◌≤◌, Bool, true, false, cond, not, ◌&&◌, List, [], ◌∷◌, ◌++◌, length, get_or, set}
+use Rattle.std.proofs.Common.{refl, sym, ap, ◌∙◌, subst, arith, true≢false, ◌==◌, Option, Some, None, is_none, length-set, eq-eqb}
 use mathlib.Core.Logic.{dite}
 use native.Mathlib.Decide.{ℕ_discrete}
 use Rattle.fv_graph.specs.Tasks.{bit}
@@ -10,8 +10,8 @@ use Rattle.fv_graph.specs.Net.{Net, IsNet}
 use Rattle.fv_graph_core.specs.declared.event.Event.TheVariants.{Arrive}
 use Rattle.fv_graph_core.specs.Core.{Now, is_run, deque_of, run_of, owes_of, is_done, count_of, is_free, joined, after}
 use Rattle.fv_graph_core.specs.Valid.{Valid, runs_it, runs_some}
-use Rattle.fv_graph.proofs.lemmas.Counts.{bit_le, bit_same, bit_apart, bit_swap, bit_one, bit_true, bit_false, bit_left, bit_right, bit_wide, bit_both, both_true}
-use Rattle.fv_graph.proofs.lemmas.Counts.{not_true, total_set, total_at, total_append, total_add, get_set, done_set, count_set, spare}
+use Rattle.fv_graph.proofs.lemmas.Counts.{bit_le, bit_same, bit_apart, bit_swap, bit_one, bit_true, bit_false, bit_left, bit_right, bit_wide, bit_both}
+use Rattle.fv_graph.proofs.lemmas.Counts.{both_true, not_true, total_set, total_at, total_append, total_add, get_set, done_set, count_set, spare}
 use Rattle.fv_graph_core.proofs.lemmas.EndsLemmas.{times_without}
 
 pub record Free (s : Now) (w : ℕ) : Type 0 where

@@ -1,5 +1,6 @@
 -- A graph that is put behind others: its groups, which are opened before and closed behind it.
-use Rattle.std.proofs.Common.{◌≡◌, inl, inr, ℕ, zero, suc, ◌+◌, ◌-◌, ◌<◌, ◌≤◌, ◌^◌, List, [], ◌∷◌, ◌++◌, length, map, get_or, All, refl, sym, ap, ap₂, ◌∙◌, subst, arith, pos, true, false, ℤ}
+use Rattle.std.proofs.Common.{◌≡◌, inl, inr, ℕ, zero, suc, ◌+◌, ◌-◌, ◌<◌, ◌≤◌, ◌^◌, List, [], ◌∷◌, ◌++◌, length}
+use Rattle.std.proofs.Common.{map, get_or, All, refl, sym, ap, ap₂, ◌∙◌, subst, arith, pos, true, false, ℤ}
 use Rattle.std.proofs.lemmas.Bool.{cases_lt}
 use Rattle.std.proofs.lemmas.List.{get_or_append_left, get_or-append_right, get_or_push, length_push, get_or-map, get_or_default, length-map, length-set}
 use Rattle.std.proofs.lemmas.List.Elements.{All-get_or, All-from_get_or, All-map}
@@ -9,11 +10,13 @@ use Rattle.fv_analysis.specs.headline.Stands.{node}
 use Rattle.fv_signal.specs.declared.signal.Signal.{Signal}
 use Rattle.fv_signal.specs.declared.signal.Signal.TheVariants.{Input, Const, Control, Point, Delay, Back, Member, Read, Write}
 use Rattle.fv_signal.specs.headline.Value.{Graph, members, definition, NamesWithin, IsGraph}
-use Rattle.fv_share.specs.Drafts.{Draft, AreClosed, AreOpened, AreShut, BacksWithin, CanClose, IsPending, with_groups, with_tables, with_members, with_all_members}
+use Rattle.fv_share.specs.Drafts.{Draft, AreClosed, AreOpened, AreShut, BacksWithin, CanClose, IsPending}
+use Rattle.fv_share.specs.Drafts.{with_groups, with_tables, with_members, with_all_members}
 use Rattle.fv_share.proofs.lemmas.Groups.{groups_stay}
 use Rattle.fv_join.specs.declared.copying.Offsets.{Offsets}
 use Rattle.fv_join.specs.Jobs.{NamesBelow, ReadsWithin}
-use Rattle.fv_join.specs.inner.Copied.{renumbered, definitions_of, offsets_behind, NumbersFit, HaveRoom, AreListed, IsAppended, IsImage, IsOneOf, IsValid, IsUnderWay}
+use Rattle.fv_join.specs.inner.Copied.{renumbered, definitions_of, offsets_behind, NumbersFit, HaveRoom}
+use Rattle.fv_join.specs.inner.Copied.{AreListed, IsAppended, IsImage, IsOneOf, IsValid, IsUnderWay}
 use Rattle.fv_join.proofs.Images.{at_prefix}
 
 -- ---- numbers
@@ -68,7 +71,8 @@ opened d h (suc n) = let p = opened d h n in let q = with_groups d n in record {
         let z : length q.closed ≡ length d.groups + g = omega (arith, opened_marked d h n, p.long, l, m) in
         (omega (arith, length_push q.groups [], p.long, l), get_or_push q.closed false false (length d.groups + g) z)
   ];
-  fresh = λ g l s k x w e. h.fresh (length d.groups + g) (omega arith) s k x (omega (arith, ap length p.signals, w)) (ap (λ ss. get_or ss s x) (sym p.signals) ∙ e);
+  fresh = λ g l s k x w e. h.fresh (length d.groups + g) (omega arith) s k x (omega (arith, ap length p.signals, w))
+      (ap (λ ss. get_or ss s x) (sym p.signals) ∙ e);
   groups = λ g l. get_or_append_left q.groups ([] ∷ []) [] g (omega (arith, p.long, l)) ∙ p.groups g l;
   closed = λ g l. get_or_append_left q.closed (false ∷ []) false g (omega (arith, opened_marked d h n, p.long, l)) ∙ p.closed g l;
 }

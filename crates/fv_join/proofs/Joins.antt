@@ -2,7 +2,8 @@
 use Rattle.std.proofs.Common.{◌≡◌, inl, inr, ℕ, ◌+◌, ◌-◌, ◌<◌, ◌≤◌, List, [], ◌∷◌, ◌++◌, ℤ, length, take, get_or, All, refl, sym, ap, ◌∙◌, subst, arith, pos}
 use Rattle.std.specs.Prelude.{Result, Ok, Err, IfOk, OnOk}
 use Rattle.std.proofs.lemmas.Bool.{cases_lt}
-use Rattle.std.proofs.lemmas.List.{get_or_append_left, get_or-append_right, get_or-map, get_or_default, length-append, length-map, append-nil, take_all, take_more}
+use Rattle.std.proofs.lemmas.List.{get_or_append_left, get_or-append_right, get_or-map, get_or_default}
+use Rattle.std.proofs.lemmas.List.{length-append, length-map, append-nil, take_all, take_more}
 use Rattle.std.proofs.lemmas.List.Sums.{sum_by_more, sum_by_more_le}
 use Rattle.std.proofs.lemmas.List.Elements.{All-append, All-from_get_or, All-map}
 use Rattle.std.specs.List.{flat_map}
@@ -220,7 +221,13 @@ module _ (jobs : List Job) (d : Draft) (outs : List ℕ) (h : AreJoined jobs (le
       let s = h.each k e l in
       ap (λ i. value f i X c t) (s.outputs j m)
       ∙ keeps job.graph f s.images (behind jobs k s.groups s.tables) job.inputs job.controls s.whole made
-      (record { there = s.copied.there; copies = s.copied.copies; groups = s.copied.groups; definitions = s.copied.definitions; tables = s.copied.tables }) (can.reads k e l) X c
+      (record {
+        there = s.copied.there;
+        copies = s.copied.copies;
+        groups = s.copied.groups;
+        definitions = s.copied.definitions;
+        tables = s.copied.tables;
+      }) (can.reads k e l) X c
       (output job.graph j) t (s.whole.outputs j m)
 
   have_delays : (s x by max : ℕ) → StandsAt f s (Delay x by max) → HasDelay jobs max

@@ -1,5 +1,6 @@
 -- Parts side by side answer what each part answers.
-use Rattle.std.proofs.Common.{◌≡◌, ℕ, zero, suc, ◌+◌, ◌-◌, ◌<◌, List, [], ◌∷◌, ◌++◌, length, map, take, drop, get_or, All, refl, sym, ap, ap₂, ◌∙◌, subst, arith, pos}
+use Rattle.std.proofs.Common.{◌≡◌, ℕ, zero, suc, ◌+◌, ◌-◌, ◌<◌, List, [], ◌∷◌, ◌++◌, length, map}
+use Rattle.std.proofs.Common.{take, drop, get_or, All, refl, sym, ap, ap₂, ◌∙◌, subst, arith, pos}
 use Rattle.std.proofs.lemmas.List.{get_or_append_left, get_or-append_right, length-map, length-drop, length-take-le, drop-drop}
 use Rattle.std.proofs.lemmas.List.Sums.{sum_by-cons}
 use Rattle.fv_diagram.specs.Frames.{Frame, Stream, column, frame_at}

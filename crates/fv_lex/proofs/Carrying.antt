@@ -1,6 +1,6 @@
 -- Each symbol carries the number of its own token.
-use Rattle.std.proofs.Common.{◌≡◌, ℕ, zero, suc, ◌⊎◌, inl, inr, Bool, true, false, List, [], ◌∷◌, ◌++◌, length, Option, Some, None, refl, sym, ap, subst, arith}
-use Rattle.std.proofs.Common.{slice_get, unwrap_or}
+use Rattle.std.proofs.Common.{◌≡◌, ℕ, zero, suc, ◌⊎◌, inl, inr, Bool, true, false, List, [], ◌∷◌, ◌++◌}
+use Rattle.std.proofs.Common.{length, Option, Some, None, refl, sym, ap, subst, arith, slice_get, unwrap_or}
 use Rattle.std.specs.Prelude.{nat_eq}
 use Rattle.std.specs.List.{list_all}
 use Rattle.std.specs.Str.{bytes_eq}
@@ -11,8 +11,8 @@ use Rattle.fv_lex.specs.declared.token.Kind.TheVariants as kinds
 use Rattle.fv_lex.specs.declared.token.Symbol.{Symbol}
 use Rattle.fv_lex.specs.declared.token.Symbol.TheVariants.{Name, Text, Integer, Unsupported, Merge, NotEqual}
 use Rattle.fv_lex.specs.declared.token.Span.{Span}
-use Rattle.fv_lex.specs.headline.Symbols.{at_byte, at_word, singles, after_less, after_greater, after_equals, double, primitive_words, form_words, control_words}
-use Rattle.fv_lex.specs.headline.Symbols.{is_unsupported, symbol_of}
+use Rattle.fv_lex.specs.headline.Symbols.{at_byte, at_word, singles, after_less, after_greater, after_equals, double}
+use Rattle.fv_lex.specs.headline.Symbols.{primitive_words, form_words, control_words, is_unsupported, symbol_of}
 use Rattle.fv_lex.specs.Spans.{new_symbols, HasSymbol}
 use Rattle.fv_lex.specs.Carried.{Carries, AllCarry}
 

@@ -1,6 +1,6 @@
 -- Each piece is what the step finds, and each fault is what it refuses.
-use Rattle.std.proofs.Common.{◌≡◌, ℕ, suc, ◌+◌, ◌≤◌, Bool, true, false, cond, not, ◌&&◌, ◌||◌, List, [], ◌∷◌, ◌++◌, length, take, drop, Option, Some, None}
-use Rattle.std.proofs.Common.{refl, sym, ap, subst, ◌∙◌, arith, ◌⊎◌, inl, inr}
+use Rattle.std.proofs.Common.{◌≡◌, ℕ, suc, ◌+◌, ◌≤◌, Bool, true, false, cond, not, ◌&&◌, ◌||◌, List, [], ◌∷◌, ◌++◌}
+use Rattle.std.proofs.Common.{length, take, drop, Option, Some, None, refl, sym, ap, subst, ◌∙◌, arith, ◌⊎◌, inl, inr}
 use Rattle.std.specs.Prelude.{nat_eq, nat_lt, is_some}
 use Rattle.std.specs.List.{list_all, prefix_len}
 use Rattle.std.specs.Option.{option_map}
@@ -15,9 +15,9 @@ use Rattle.fv_lex.specs.declared.refusal.Fault.TheVariants.{BadByte, RealLiteral
 use Rattle.fv_lex.specs.declared.next.Next.TheVariants.{Found, Refused}
 use Rattle.fv_lex.specs.headline.Bytes.{is_blank, is_letter, is_digit, is_underscore, is_name_byte, is_quote, is_in_line, begins}
 use Rattle.fv_lex.specs.headline.Symbols.{at_byte, singles, double, value}
-use Rattle.fv_lex.specs.headline.Pieces.{is_name, is_integer, is_nothing, closes, is_token, IsLongest, BeginsNoToken, is_real_tail, BeginsReal, fraction, real}
-use Rattle.fv_lex.specs.headline.Pieces.{begins_comment, ends_line, has_close, greatest_literal, IsPiece, blank_byte, line_comment, block_comment, longest_token}
-use Rattle.fv_lex.specs.headline.Pieces.{IsFault, unclosed_text, unclosed_comment, real_literal, large_literal, bad_byte}
+use Rattle.fv_lex.specs.headline.Pieces.{is_name, is_integer, is_nothing, closes, is_token, IsLongest, BeginsNoToken, is_real_tail, BeginsReal, fraction}
+use Rattle.fv_lex.specs.headline.Pieces.{real, begins_comment, ends_line, has_close, greatest_literal, IsPiece, blank_byte, line_comment, block_comment}
+use Rattle.fv_lex.specs.headline.Pieces.{longest_token, IsFault, unclosed_text, unclosed_comment, real_literal, large_literal, bad_byte}
 use Rattle.fv_lex.specs.inner.Steps.{to_quote, to_close, bare_underscores, number_next, slash_next, sign_next, first_next, next_piece}
 use Rattle.fv_lex.proofs.lemmas.Runs.{Stops, prefix_len-passes, run_is, list_all_more}
 use Rattle.fv_lex.proofs.lemmas.Classes.{digit_range, no_letter, no_blank}

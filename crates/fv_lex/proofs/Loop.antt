@@ -1,6 +1,6 @@
 -- One more piece of the text.
-use Rattle.std.proofs.Common.{◌≡◌, ℕ, suc, ◌+◌, ◌-◌, ◌<◌, ◌≤◌, List, [], ◌∷◌, ◌++◌, length, take, drop, Option, Some, None, Ok, Err, All, refl, sym, ap, subst}
-use Rattle.std.proofs.Common.{◌∙◌, arith, append_assoc, length-append}
+use Rattle.std.proofs.Common.{◌≡◌, ℕ, suc, ◌+◌, ◌-◌, ◌<◌, ◌≤◌, List, [], ◌∷◌, ◌++◌, length, take, drop, Option, Some}
+use Rattle.std.proofs.Common.{None, Ok, Err, All, refl, sym, ap, subst, ◌∙◌, arith, append_assoc, length-append}
 use Rattle.std.proofs.lemmas.List.{append-nil, take-append-drop, length-take, length-drop, drop-drop, take_at}
 use Rattle.std.proofs.lemmas.List.Elements.{All-push}
 use Rattle.std.proofs.lemmas.Bool.{lt-ltb}
@@ -20,8 +20,8 @@ use Rattle.fv_lex.specs.headline.Bytes.{is_letter, is_underscore, begins}
 use Rattle.fv_lex.specs.headline.Symbols.{symbol_of}
 use Rattle.std.specs.List.{prefix_len}
 use Rattle.fv_lex.specs.inner.Steps.{bare_underscores, IsBare, next_piece}
-use Rattle.fv_lex.specs.headline.Cuts.{deepest, depth_after, Cut, Cuts, nothing_more, piece_first, Ends, whole, faulty, too_deep, first_place, place_after, token_of}
-use Rattle.fv_lex.specs.headline.Cuts.{tokens_of, end_of, refusal_at, answer_of, longest_text, Has, cut}
+use Rattle.fv_lex.specs.headline.Cuts.{deepest, depth_after, Cut, Cuts, nothing_more, piece_first, Ends, whole, faulty, too_deep}
+use Rattle.fv_lex.specs.headline.Cuts.{first_place, place_after, token_of, tokens_of, end_of, refusal_at, answer_of, longest_text, Has, cut}
 use Rattle.fv_lex.proofs.TokenLists.{length-tokens_in}
 use Rattle.fv_lex.proofs.lemmas.Runs.{prefix_len-passes}
 use Rattle.fv_lex.proofs.lemmas.Sound.{At, Told, sound, wires_some, run_head}

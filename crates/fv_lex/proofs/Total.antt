@@ -1,6 +1,6 @@
 -- A text has an answer.
-use Rattle.std.proofs.Common.{◌≡◌, ℕ, zero, suc, ◌<◌, ◌≤◌, List, [], ◌∷◌, ◌++◌, length, take, drop, Option, Some, None, Result, Err, refl, sym, subst, arith}
-use Rattle.std.proofs.Common.{◌⊎◌, inl, inr}
+use Rattle.std.proofs.Common.{◌≡◌, ℕ, zero, suc, ◌<◌, ◌≤◌, List, [], ◌∷◌, ◌++◌, length, take, drop}
+use Rattle.std.proofs.Common.{Option, Some, None, Result, Err, refl, sym, subst, arith, ◌⊎◌, inl, inr}
 use Rattle.std.proofs.lemmas.Bool.{cases_lt}
 use Rattle.std.proofs.lemmas.List.{take-append-drop, length-drop}
 use Rattle.fv_base.specs.declared.role.Role.TheVariants.{Program}
@@ -13,8 +13,8 @@ use Rattle.fv_lex.specs.declared.next.Next.{Next}
 use Rattle.fv_lex.specs.declared.next.Next.TheVariants.{End, Found, Refused}
 use Rattle.fv_lex.specs.headline.Token.{Lexed}
 use Rattle.fv_lex.specs.inner.Steps.{next_piece}
-use Rattle.fv_lex.specs.headline.Cuts.{deepest, depth_after, Cut, Cuts, nothing_more, piece_first, Ends, whole, faulty, too_deep, answer_of, longest_text, Has, too_long}
-use Rattle.fv_lex.specs.headline.Cuts.{cut}
+use Rattle.fv_lex.specs.headline.Cuts.{deepest, depth_after, Cut, Cuts, nothing_more, piece_first, Ends}
+use Rattle.fv_lex.specs.headline.Cuts.{whole, faulty, too_deep, answer_of, longest_text, Has, too_long, cut}
 use Rattle.fv_lex.specs.Cuts.{HasAtLeastOne}
 use Rattle.fv_lex.proofs.lemmas.Sound.{At, Told, sound}
 

@@ -4,8 +4,8 @@ ghost use Rattle.std.specs.Prelude.{◌≡◌, ◌≤◌, true};
 ghost use Rattle.std.specs.List.{list_any};
 ghost use Rattle.std.specs.Str.{bytes_eq};
 ghost use Rattle.fv_lex.specs.declared.token.Kind.TheVariants.{Integer};
-ghost use Rattle.fv_lex.specs.headline.Symbols.{at_byte, at_word, singles, double, sign, primitive_words, form_words, control_words, unsupported_forms, real_words};
-ghost use Rattle.fv_lex.specs.headline.Symbols.{word_symbol, symbol_of, value};
+ghost use Rattle.fv_lex.specs.headline.Symbols.{at_byte, at_word, singles, double, sign, primitive_words, form_words};
+ghost use Rattle.fv_lex.specs.headline.Symbols.{control_words, unsupported_forms, real_words, word_symbol, symbol_of, value};
 ghost use Rattle.fv_lex.specs.headline.Pieces.{is_token, greatest_literal};
 
 use crate::scan::number;

@@ -22,8 +22,8 @@ impl<'a, 'l, 's, 'b, 'c> Solo<'a, 'l, 's, 'b, 'c> {
     ghost use Rattle.fv_loopcode.specs.Words.{argument};
     ghost use Rattle.fv_loopcode.specs.headline.Lanes.{lane_of, appended, sample_at};
     ghost use Rattle.fv_loopcode.specs.Lanes.{all_appended, HasSample, HasJust};
-    ghost use Rattle.fv_lines.specs.Solo.{lanes_of, lane_at, lengths_in, shapes_in, cells_in, frames_in, written_in, opening_lanes, AreLists, AreHeld, AreFramed, AreFull};
-    ghost use Rattle.fv_lines.specs.Solo.{HoldNext, IsSolo, rest_of, rest_in};
+    ghost use Rattle.fv_lines.specs.Solo.{lanes_of, lane_at, lengths_in, shapes_in, cells_in, frames_in, written_in, opening_lanes};
+    ghost use Rattle.fv_lines.specs.Solo.{AreLists, AreHeld, AreFramed, AreFull, HoldNext, IsSolo, rest_of, rest_in};
 
     /// Every lane begins with the history that its cells and its state hold. `begun` has one record for each lane, whatever they say.
     pub fn begin(

@@ -48,8 +48,22 @@ module _ (held : ℕ → ℤ) (inputs : ℕ → ℕ → ℤ) (count : ℕ) (T C 
   sums_may n l =
       let s = sums n (omega arith) in
       let h = s.holds in
-      subst (λ state. MayPass held (inputs (0 + n)) (0 + n) (opening state) running_sum) (sym s.is)
-      (tt, (tt, (tt, (tt, ((omega arith, record { not_before = omega (arith, h.history); written = omega (arith, h.history, h.long) }), (tt, ((omega arith, omega (arith, h.room)), tt)))))))
+      subst (λ state. MayPass held (inputs (0 + n)) (0 + n) (opening state) running_sum) (sym s.is) (
+        tt,
+        (
+          tt,
+          (
+            tt,
+            (
+              tt,
+              (
+                (omega arith, record { not_before = omega (arith, h.history); written = omega (arith, h.history, h.long) }),
+                (tt, ((omega arith, omega (arith, h.room)), tt)),
+              ),
+            ),
+          ),
+        ),
+      )
 
 -- it may run over a shelf with room for them
 pub may_sum : (code : List Step) (held : ℕ → ℤ) (inputs : ℕ → ℕ → ℤ) (count : ℕ) (shelf : Shelf) → code ≡ running_sum → HasRoom shelf count →

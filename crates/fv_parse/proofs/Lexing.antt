@@ -1,6 +1,6 @@
 -- The tokens of a text nest no deeper than 128 brackets.
-use Rattle.std.proofs.Common.{◌≡◌, ℕ, zero, suc, ◌+◌, ◌-◌, ◌≤◌, Bool, true, false, cond, List, [], ◌∷◌, ◌++◌, length, Option, Some, None, Result, Ok, refl, sym}
-use Rattle.std.proofs.Common.{ap, subst, ◌∙◌, arith}
+use Rattle.std.proofs.Common.{◌≡◌, ℕ, zero, suc, ◌+◌, ◌-◌, ◌≤◌, Bool, true, false, cond, List, [], ◌∷◌, ◌++◌}
+use Rattle.std.proofs.Common.{length, Option, Some, None, Result, Ok, refl, sym, ap, subst, ◌∙◌, arith}
 use Rattle.std.specs.Prelude.{nat_eq, ◌||◌, unwrap_or}
 use Rattle.std.specs.List.{list_all}
 use Rattle.std.proofs.lemmas.Bool.{eqb-true, and_parts}
@@ -13,8 +13,8 @@ use Rattle.fv_lex.specs.declared.token.Place.{Place}
 use Rattle.fv_lex.specs.declared.refusal.LexRefusal.{LexRefusal}
 use Rattle.fv_lex.specs.headline.Token.{Token, Lexed, symbols_of}
 use Rattle.fv_lex.specs.headline.Bytes.{is_blank}
-use Rattle.fv_lex.specs.headline.Symbols.{at_byte, at_word, singles, after_less, after_greater, after_equals, double, primitive_words, form_words, control_words}
-use Rattle.fv_lex.specs.headline.Symbols.{is_unsupported, word_symbol, symbol_of}
+use Rattle.fv_lex.specs.headline.Symbols.{at_byte, at_word, singles, after_less, after_greater, after_equals, double}
+use Rattle.fv_lex.specs.headline.Symbols.{primitive_words, form_words, control_words, is_unsupported, word_symbol, symbol_of}
 use Rattle.fv_lex.specs.headline.Pieces.{is_token, IsPiece, blank_byte, line_comment, block_comment, longest_token}
 use Rattle.fv_lex.specs.headline.Cuts.{depth_after, Cut, Cuts, nothing_more, piece_first, tokens_of, token_of, place_after, first_place, end_of, Has}
 use Rattle.fv_lex.specs.Cuts.{HasTokens}

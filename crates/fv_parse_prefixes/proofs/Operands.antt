@@ -13,9 +13,10 @@ use Rattle.fv_parse_grammar.specs.declared.symbol.Head.TheVariants as heads
 use Rattle.fv_parse_grammar.specs.declared.symbol.Inside.TheVariants as insides
 use Rattle.fv_parse_grammar.specs.headline.Symbols.{head}
 use Rattle.fv_parse_grammar.specs.headline.Tree.{Tree}
-use Rattle.fv_parse_grammar.specs.headline.Grammar.{Primary, number, plus_number, minus_number, minus_name, named, wire, cut, plus, minus, primitive, grouped, abstracted}
-use Rattle.fv_parse_grammar.specs.headline.Grammar.{cased, iterated, ported, switched, slid, paneled}
-use Rattle.fv_parse_grammar.proofs.lemmas.Tokens.{is_integer, is_name, is_plus, is_minus, is_underscore, is_exclamation, is_open, is_backslash, is_case, is_waveform}
+use Rattle.fv_parse_grammar.specs.headline.Grammar.{Primary, number, plus_number, minus_number, minus_name, named, wire, cut, plus, minus}
+use Rattle.fv_parse_grammar.specs.headline.Grammar.{primitive, grouped, abstracted, cased, iterated, ported, switched, slid, paneled}
+use Rattle.fv_parse_grammar.proofs.lemmas.Tokens.{is_integer, is_name, is_plus, is_minus, is_underscore}
+use Rattle.fv_parse_grammar.proofs.lemmas.Tokens.{is_exclamation, is_open, is_backslash, is_case, is_waveform}
 use Rattle.fv_parse_grammar.specs.headline.Grammar.{waved}
 use Rattle.fv_parse_grammar.specs.Descent.{waveform}
 use Rattle.fv_parse_prefixes.proofs.Plans.{counted_all, LiteralList}
@@ -23,9 +24,10 @@ use Rattle.fv_parse_prefixes.proofs.Pieces.{literal_list_reads}
 use Rattle.fv_parse_grammar.specs.Descent as descent
 use Rattle.fv_parse_grammar.specs.declared.symbol.Mark.TheVariants as marks
 use Rattle.fv_parse_grammar.specs.Descent.{Step, ◌>>=◌, Reader, group, abstraction, case_of, iteration, ports, switch, slider, panel, by_head, primary}
-use Rattle.fv_parse_prefixes.proofs.Plans.{called, worded, called_all, both, signed, Spelled, spelled, Plan, Sign, AName, AText, NameList, Inner, APrimary, Then, Spans}
-use Rattle.fv_parse_prefixes.proofs.Plans.{took, behind, next, made, done, as_plan, unread, one_taken, Reads}
-use Rattle.fv_parse_prefixes.proofs.Pieces.{expect_passes, a_name_reads, a_text_reads, label_reads, name_list_reads, ReadsInside, enclosed_reads, argument_reads}
+use Rattle.fv_parse_prefixes.proofs.Plans.{called, worded, called_all, both, signed, Spelled, spelled, Plan, Sign, AName, AText, NameList}
+use Rattle.fv_parse_prefixes.proofs.Plans.{Inner, APrimary, Then, Spans, took, behind, next, made, done, as_plan, unread, one_taken, Reads}
+use Rattle.fv_parse_prefixes.proofs.Pieces.{expect_passes, a_name_reads, a_text_reads, label_reads}
+use Rattle.fv_parse_prefixes.proofs.Pieces.{name_list_reads, ReadsInside, enclosed_reads, argument_reads}
 
 -- ---- the forms that a first token begins
 -- behind a token

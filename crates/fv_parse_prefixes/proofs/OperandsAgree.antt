@@ -11,13 +11,14 @@ use Rattle.fv_parse_grammar.specs.declared.symbol.Head.{Head}
 use Rattle.fv_parse_grammar.specs.declared.symbol.Head.TheVariants as heads
 use Rattle.fv_parse_grammar.specs.declared.symbol.Inside.TheVariants as insides
 use Rattle.fv_parse_grammar.specs.headline.Symbols.{head}
-use Rattle.fv_parse_grammar.specs.Descent.{Reader, after_plus, after_minus, group, abstraction, case_of, iteration, ports, switch, slider, panel, by_head, primary}
-use Rattle.fv_parse_prefixes.proofs.Agreement.{Fork, Same, BothRead, also, given, halted, Looks, takes, stays_at, looked, Passing, no_bracket, head_passing}
-use Rattle.fv_parse_prefixes.proofs.Agreement.{group_opens, AgreesInside}
-use Rattle.fv_parse_prefixes.proofs.PiecesAgree.{expect_both, by_open, by_close, by_open_brace, by_close_brace, by_comma, by_dot, a_name_both, a_text_both, label_both}
+use Rattle.fv_parse_grammar.specs.Descent.{Reader, after_plus, after_minus, group, abstraction, case_of}
+use Rattle.fv_parse_grammar.specs.Descent.{iteration, ports, switch, slider, panel, by_head, primary}
+use Rattle.fv_parse_prefixes.proofs.Agreement.{Fork, Same, BothRead, also, given, halted, Looks, takes, stays_at}
+use Rattle.fv_parse_prefixes.proofs.Agreement.{looked, Passing, no_bracket, head_passing, group_opens, AgreesInside}
+use Rattle.fv_parse_prefixes.proofs.PiecesAgree.{expect_both, by_open, by_close, by_open_brace, by_close_brace}
+use Rattle.fv_parse_prefixes.proofs.PiecesAgree.{by_comma, by_dot, a_name_both, a_text_both, label_both}
 use Rattle.fv_parse_grammar.specs.Descent.{waveform}
-use Rattle.fv_parse_prefixes.proofs.PiecesAgree.{literal_list_both}
-use Rattle.fv_parse_prefixes.proofs.PiecesAgree.{name_list_both, enclosed_both, argument_both}
+use Rattle.fv_parse_prefixes.proofs.PiecesAgree.{literal_list_both, name_list_both, enclosed_both, argument_both}
 
 -- ---- the forms that a first token begins
 module _ {k : Fork} {d : ℕ} {inner inner' : Reader} (inside : AgreesInside k (suc d) inner inner') where

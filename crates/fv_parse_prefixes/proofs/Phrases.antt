@@ -10,16 +10,15 @@ use Rattle.fv_parse_grammar.specs.declared.symbol.Head.TheVariants as heads
 use Rattle.fv_parse_grammar.specs.declared.symbol.Inside.TheVariants as insides
 use Rattle.fv_parse_grammar.specs.headline.Symbols.{head, power, is_left}
 use Rattle.fv_parse_grammar.specs.headline.Tree.{Tree}
-use Rattle.fv_parse_grammar.specs.headline.Grammar.{Expression, Phrase, Postfix, Atom, plain, qualified, tighter, leftward, rightward, operand, pattern_operand, bare, delayed}
-use Rattle.fv_parse_grammar.specs.headline.Grammar.{applied, atom_number, atom_plus_number, atom_minus_number, atom_name, atom_grouped}
+use Rattle.fv_parse_grammar.specs.headline.Grammar.{Expression, Phrase, Postfix, Atom, plain, qualified, tighter, leftward, rightward, operand, pattern_operand}
+use Rattle.fv_parse_grammar.specs.headline.Grammar.{bare, delayed, applied, atom_number, atom_plus_number, atom_minus_number, atom_name, atom_grouped}
 use Rattle.fv_parse_grammar.specs.Descent as descent
 use Rattle.fv_parse_grammar.specs.declared.symbol.Mark.TheVariants as marks
-use Rattle.fv_parse_grammar.specs.Descent.{Step, ◌>>=◌, Reader, power_at, postfix, postfix_turn, atom_by_head, atom}
-use Rattle.fv_parse_grammar.specs.Descent.{rights, chain, phrase}
-use Rattle.fv_parse_grammar.specs.Descent.{left_turn, expression, with_turn}
-use Rattle.fv_parse_prefixes.proofs.Plans.{both, nought, signed, Onward, stay, onward, Spelled, spelled, Nothing, Sign, Inner, Joined, APostfix, APrimary, AnAtom}
-use Rattle.fv_parse_prefixes.proofs.Plans.{GoesOn, Then, Spans, Takes, stuck, behind, next, made, done, joins, as_takes, as_plan, onward_from, unread, one_taken}
-use Rattle.fv_parse_prefixes.proofs.Plans.{by_test, Reads}
+use Rattle.fv_parse_grammar.specs.Descent.{Step, ◌>>=◌, Reader, power_at, postfix, postfix_turn, atom_by_head}
+use Rattle.fv_parse_grammar.specs.Descent.{atom, rights, chain, phrase, left_turn, expression, with_turn}
+use Rattle.fv_parse_prefixes.proofs.Plans.{both, nought, signed, Onward, stay, onward, Spelled, spelled, Nothing, Sign, Inner}
+use Rattle.fv_parse_prefixes.proofs.Plans.{Joined, APostfix, APrimary, AnAtom, GoesOn, Then, Spans, Takes, stuck, behind, next}
+use Rattle.fv_parse_prefixes.proofs.Plans.{made, done, joins, as_takes, as_plan, onward_from, unread, one_taken, by_test, Reads}
 use Rattle.fv_parse_prefixes.proofs.Pieces.{expect_passes, ReadsInside, enclosed_reads}
 use Rattle.fv_parse_grammar.proofs.lemmas.Tokens.{is_integer, is_name, is_plus, is_minus, is_open}
 use Rattle.fv_parse_prefixes.proofs.Operands.{headed, leaf, pair, begun, primary_reads}

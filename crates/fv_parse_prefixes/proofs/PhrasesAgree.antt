@@ -10,12 +10,11 @@ use Rattle.fv_parse_grammar.specs.declared.symbol.Inside.TheVariants as insides
 use Rattle.fv_parse_grammar.specs.headline.Symbols.{head, power, operator, is_left}
 use Rattle.fv_parse_grammar.specs.headline.Tree.{Tree, Delayed, Apply, Binary, Where}
 use Rattle.fv_parse_grammar.specs.declared.symbol.Mark.TheVariants as marks
-use Rattle.fv_parse_grammar.specs.Descent.{Step, ◌>>=◌, Turn, Done, turn, run, Reader, power_at, expect, enclosed, plus_number}
-use Rattle.fv_parse_grammar.specs.Descent.{minus_number, postfix, postfix_turn}
-use Rattle.fv_parse_grammar.specs.Descent.{atom_by_head, atom, operand, chain, phrase, left_turn, expression, with_turn}
+use Rattle.fv_parse_grammar.specs.Descent.{Step, ◌>>=◌, Turn, Done, turn, run, Reader, power_at, expect, enclosed, plus_number, minus_number}
+use Rattle.fv_parse_grammar.specs.Descent.{postfix, postfix_turn, atom_by_head, atom, operand, chain, phrase, left_turn, expression, with_turn}
 use Rattle.fv_parse_grammar.proofs.lemmas.Loops.{run_next, run_done, run_stop, joined, chain_next, chain_done, chain_stop}
-use Rattle.fv_parse_prefixes.proofs.Agreement.{Fork, Same, remains, BothRead, also, given, halted, both_test, of_test, of_equal, unrolled, Looks, takes, stays_at}
-use Rattle.fv_parse_prefixes.proofs.Agreement.{looked, looked_among, opens, no_bracket, operator_passing, group_opens, AgreesInside}
+use Rattle.fv_parse_prefixes.proofs.Agreement.{Fork, Same, remains, BothRead, also, given, halted, both_test, of_test, of_equal, unrolled, Looks}
+use Rattle.fv_parse_prefixes.proofs.Agreement.{takes, stays_at, looked, looked_among, opens, no_bracket, operator_passing, group_opens, AgreesInside}
 use Rattle.fv_parse_prefixes.proofs.PiecesAgree.{expect_both, by_open_brace, by_close_brace, enclosed_both}
 use Rattle.fv_parse_prefixes.proofs.OperandsAgree.{begins_operand, primary_both}
 use Rattle.fv_parse_grammar.specs.declared.symbol.Operands.{Operands}

@@ -18,8 +18,8 @@ use Rattle.fv_parse_grammar.specs.headline.Grammar.{SpellsNumber, unsigned, with
 use Rattle.fv_parse_grammar.specs.Descent.{◌>>=◌, a_value, a_literal, literal_list}
 use Rattle.fv_parse_prefixes.proofs.Plans.{stuck, counted, CountedAll, counted_all, ALiteral, LiteralList}
 use Rattle.fv_parse_grammar.specs.Descent.{Step, Reader, expect, a_name, a_text, at_comma, separated, name_list, enclosed, argument, label}
-use Rattle.fv_parse_prefixes.proofs.Plans.{Plan, called, worded, CalledAll, called_all, both, this, that, nought, signed, Nothing, Sign, AName, AText, NameList, Inner, Then}
-use Rattle.fv_parse_prefixes.proofs.Plans.{Or, Spans, Takes, took, behind, next, made, done, as_plan, unread, one_taken, by_test, Passes, Reads}
+use Rattle.fv_parse_prefixes.proofs.Plans.{Plan, called, worded, CalledAll, called_all, both, this, that, nought, signed, Nothing, Sign, AName, AText, NameList}
+use Rattle.fv_parse_prefixes.proofs.Plans.{Inner, Then, Or, Spans, Takes, took, behind, next, made, done, as_plan, unread, one_taken, by_test, Passes, Reads}
 
 -- ---- single tokens
 pub expect_passes : (m : Mark) (ts : List Symbol) → Passes (Sign (sign m)) ts (expect m ts)

@@ -16,8 +16,8 @@ use Rattle.fv_parse_grammar.specs.declared.symbol.Inside.{Inside}
 use Rattle.fv_parse_grammar.specs.declared.symbol.Inside.TheVariants as insides
 use Rattle.fv_parse_grammar.specs.Descent.{Step, Reader, expect, a_name, a_text, at_comma, all_separated, name_list, enclosed, argument, label}
 use Rattle.fv_parse_grammar.proofs.lemmas.Loops.{separated_step, separated_end, separated_stop, with_first}
-use Rattle.fv_parse_prefixes.proofs.Agreement.{Fork, Same, remains, BothPass, BothRead, also, given, halted, Looks, takes, stays_at, looked, looked_among, opens}
-use Rattle.fv_parse_prefixes.proofs.Agreement.{opens_brace, closes, closes_brace, no_bracket, AgreesInside, of_test, of_equal}
+use Rattle.fv_parse_prefixes.proofs.Agreement.{Fork, Same, remains, BothPass, BothRead, also, given, halted, Looks, takes, stays_at, looked}
+use Rattle.fv_parse_prefixes.proofs.Agreement.{looked_among, opens, opens_brace, closes, closes_brace, no_bracket, AgreesInside, of_test, of_equal}
 
 -- ---- single tokens
 -- what a mark does to the depth of brackets
@@ -152,7 +152,8 @@ literals_look : {k : Fork} {d : ℕ} (n : ℕ) → SeparatedAgree a_literal k d 
     → (t : Symbol) (ts us : List Symbol) → length (t ∷ ts) ≤ n → Looks k d d (λ x. x.1) t ts us (literal_list (t ∷ ts)) (literal_list (t ∷ us))
 literals_look n go (Integer m) ts us few =
     takes _ (no_bracket (λ p n. n))
-    (λ s. of_equal (item_law a_literal (literal.Plain m) (Integer m ∷ ts) ts refl (omega arith)) (item_law a_literal (literal.Plain m) (Integer m ∷ us) us refl (omega arith))
+    (λ s. of_equal (item_law a_literal (literal.Plain m) (Integer m ∷ ts) ts refl (omega arith))
+    (item_law a_literal (literal.Plain m) (Integer m ∷ us) us refl (omega arith))
     (behind_both a_literal n (literal.Plain m) go (omega arith) s))
 literals_look n go symbols.Plus ts us few =
     takes _ (no_bracket (λ p n. n)) (λ s. behind_sign_both symbols.Plus (λ m. literal.Plain m) (λ l. refl) n go ts us (omega arith) s)

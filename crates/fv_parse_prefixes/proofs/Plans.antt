@@ -11,8 +11,9 @@ use Rattle.fv_parse_grammar.specs.declared.symbol.Items.{Items}
 use Rattle.fv_parse_grammar.specs.declared.symbol.Items.TheVariants.{Parts}
 use Rattle.fv_parse_grammar.specs.headline.Symbols.{power}
 use Rattle.fv_parse_grammar.specs.headline.Tree.{Tree}
-use Rattle.fv_parse_grammar.specs.headline.Grammar.{Level, Further, Definition, Expression, Listed, OneRule, Phrase, Postfix, Primary, Atom, SpellsNames, one_name, Spells}
-use Rattle.fv_parse_grammar.specs.headline.Grammar.{no_more, first_rule, first_part, constant, rule, plain, tighter, operand, pattern_operand, bare, named, atom_name}
+use Rattle.fv_parse_grammar.specs.headline.Grammar.{Level, Further, Definition, Expression, Listed, OneRule, Phrase, Postfix, Primary}
+use Rattle.fv_parse_grammar.specs.headline.Grammar.{Atom, SpellsNames, one_name, Spells, no_more, first_rule, first_part, constant}
+use Rattle.fv_parse_grammar.specs.headline.Grammar.{rule, plain, tighter, operand, pattern_operand, bare, named, atom_name}
 use Rattle.fv_parse_grammar.specs.Descent.{Step, ◌>>=◌}
 use Rattle.fv_parse_grammar.proofs.lemmas.Sound.{level_of}
 use Rattle.fv_parse_grammar.specs.declared.symbol.Operands.{Operands}

@@ -8,16 +8,17 @@ use Rattle.fv_parse_grammar.specs.declared.symbol.Inside.TheVariants as insides
 use Rattle.fv_parse_grammar.specs.declared.symbol.Items.{Items}
 use Rattle.fv_parse_grammar.specs.declared.symbol.Items.TheVariants.{Statements, Definitions, Rules, Parts}
 use Rattle.fv_parse_grammar.specs.headline.Tree.{Tree}
-use Rattle.fv_parse_grammar.specs.headline.Grammar.{Further, Definition, Listed, OneRule, IsViablePrefix, SpellsProgram, no_more, stated, declared, declared_for, defined}
-use Rattle.fv_parse_grammar.specs.headline.Grammar.{ruled, parted, first_rule, first_part, constant, function, rule}
+use Rattle.fv_parse_grammar.specs.headline.Grammar.{Further, Definition, Listed, OneRule, IsViablePrefix, SpellsProgram, no_more, stated, declared}
+use Rattle.fv_parse_grammar.specs.headline.Grammar.{declared_for, defined, ruled, parted, first_rule, first_part, constant, function, rule}
 use Rattle.fv_parse_grammar.specs.Descent as descent
 use Rattle.fv_parse_grammar.specs.declared.symbol.Mark.TheVariants as marks
-use Rattle.fv_parse_grammar.specs.Descent.{Step, ◌>>=◌, Reader, ended, function_after, constant_after, after_name, definition, one_rule, declared_text}
-use Rattle.fv_parse_grammar.specs.Descent.{declaration, Item, Skip, One, Fault, one_of, skip_of, item, with_item, many, further, listed, within, program, whole_text}
+use Rattle.fv_parse_grammar.specs.Descent.{Step, ◌>>=◌, Reader, ended, function_after, constant_after, after_name}
+use Rattle.fv_parse_grammar.specs.Descent.{definition, one_rule, declared_text, declaration, Item, Skip, One, Fault, one_of}
+use Rattle.fv_parse_grammar.specs.Descent.{skip_of, item, with_item, many, further, listed, within, program, whole_text}
 use Rattle.fv_parse_prefixes.specs.Beginnings.{StopsBehindABeginning, BeginningsAreClosed, ProgramsBegin}
-use Rattle.fv_parse_prefixes.proofs.Plans.{called, worded, both, this, that, signed, Spelled, spelled, Adds, Plan, Sign, AName, AText, Inner, Joined, ADefinition}
-use Rattle.fv_parse_prefixes.proofs.Plans.{ARule, Others, Adding, Then, Or, Spans, Takes, Sticks, took, stuck, behind, next, made, done, as_plan, unread, one_taken}
-use Rattle.fv_parse_prefixes.proofs.Plans.{by_test, Passes, Reads, as_sticks, sticks_before, stays}
+use Rattle.fv_parse_prefixes.proofs.Plans.{called, worded, both, this, that, signed, Spelled, spelled, Adds, Plan, Sign, AName, AText, Inner}
+use Rattle.fv_parse_prefixes.proofs.Plans.{Joined, ADefinition, ARule, Others, Adding, Then, Or, Spans, Takes, Sticks, took, stuck, behind, next}
+use Rattle.fv_parse_prefixes.proofs.Plans.{made, done, as_plan, unread, one_taken, by_test, Passes, Reads, as_sticks, sticks_before, stays}
 use Rattle.fv_parse_prefixes.proofs.Pieces.{expect_passes, a_name_reads, a_text_reads, ReadsInside, enclosed_reads}
 use Rattle.fv_parse_prefixes.proofs.Operands.{headed}
 use Rattle.fv_parse_prefixes.proofs.Phrases.{phrase_reads, expression_reads}

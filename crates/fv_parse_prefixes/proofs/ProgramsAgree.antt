@@ -8,11 +8,11 @@ use Rattle.fv_parse_grammar.specs.declared.symbol.Items.{Items}
 use Rattle.fv_parse_grammar.specs.declared.symbol.Items.TheVariants.{Statements, Definitions, Rules, Parts}
 use Rattle.fv_parse_grammar.specs.headline.Tree.{Tree, End}
 use Rattle.fv_parse_grammar.specs.Descent as descent
-use Rattle.fv_parse_grammar.specs.Descent.{Step, ◌>>=◌, Reader, phrase, ended, function_after, constant_after, after_name, definition, one_rule, declared_text}
-use Rattle.fv_parse_grammar.specs.Descent.{declared_for, declaration, Item, one_of, skip_of, item, further, listed, descend, within}
+use Rattle.fv_parse_grammar.specs.Descent.{Step, ◌>>=◌, Reader, phrase, ended, function_after, constant_after, after_name, definition, one_rule}
+use Rattle.fv_parse_grammar.specs.Descent.{declared_text, declared_for, declaration, Item, one_of, skip_of, item, further, listed, descend, within}
 use Rattle.fv_parse_grammar.proofs.lemmas.Loops.{all_of, before, many_one, many_skip, many_done, many_stop}
-use Rattle.fv_parse_prefixes.proofs.Agreement.{Fork, Same, abreast, past, beyond, remains, BothPass, BothRead, also, given, of_equal, unrolled, Looks, takes, stays_at}
-use Rattle.fv_parse_prefixes.proofs.Agreement.{looked, looked_among, opens, no_bracket, AgreesInside}
+use Rattle.fv_parse_prefixes.proofs.Agreement.{Fork, Same, abreast, past, beyond, remains, BothPass, BothRead, also, given, of_equal}
+use Rattle.fv_parse_prefixes.proofs.Agreement.{unrolled, Looks, takes, stays_at, looked, looked_among, opens, no_bracket, AgreesInside}
 use Rattle.fv_parse_prefixes.proofs.PiecesAgree.{expect_both, by_open, by_equals, by_arrow, by_semicolon, a_name_both, a_text_both, enclosed_both}
 use Rattle.fv_parse_prefixes.proofs.PhrasesAgree.{phrase_both, expression_both}
 use Rattle.fv_parse_grammar.specs.declared.symbol.Operands.{Operands}

@@ -4,10 +4,10 @@ use Rattle.fv_parse_grammar.specs.Symbol.{Symbol}
 use Rattle.fv_parse_grammar.specs.Symbol.TheVariants.{Name, Comma, Open, Close, Equals, Semicolon, Underscore}
 use Rattle.fv_parse_grammar.specs.declared.symbol.Items.TheVariants.{Statements}
 use Rattle.fv_parse_grammar.specs.headline.Tree.{Tree, End}
-use Rattle.fv_parse_grammar.specs.headline.Grammar.{Spells, Further, Definition, Expression, Primary, IsViablePrefix, stated, no_more, constant, plain, tighter, operand, bare}
-use Rattle.fv_parse_grammar.specs.headline.Grammar.{wire, grouped}
-use Rattle.fv_parse_grammar.specs.Descent.{program, within, further, many, definition, constant_after, ended, expression, phrase, chain, rights, postfix, by_head}
-use Rattle.fv_parse_grammar.specs.Descent.{turns, run}
+use Rattle.fv_parse_grammar.specs.headline.Grammar.{Spells, Further, Definition, Expression, Primary, IsViablePrefix, stated}
+use Rattle.fv_parse_grammar.specs.headline.Grammar.{no_more, constant, plain, tighter, operand, bare, wire, grouped}
+use Rattle.fv_parse_grammar.specs.Descent.{program, within, further, many, definition, constant_after, ended}
+use Rattle.fv_parse_grammar.specs.Descent.{expression, phrase, chain, rights, postfix, by_head, turns, run}
 use Rattle.fv_parse_prefixes.specs.headline.Beginnings.{IsErrorPlace}
 
 -- an operand is an expression

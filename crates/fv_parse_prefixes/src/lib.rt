@@ -1,7 +1,8 @@
 //! The exact place of a syntax error: the tokens before it begin a program, and with the next one none begins.
 #![tactic(auto)]
 
-ghost use Rattle.fv_parse_prefixes.specs.Beginnings.{StopsBehindABeginning, BeginningsAreClosed, ProgramsBegin, StopsWhereNoneGoesOn, StopsAtThePlace, OnePlace};
+ghost use Rattle.fv_parse_prefixes.specs.Beginnings.{StopsBehindABeginning, BeginningsAreClosed, ProgramsBegin};
+ghost use Rattle.fv_parse_prefixes.specs.Beginnings.{StopsWhereNoneGoesOn, StopsAtThePlace, OnePlace};
 
 use fv_parse_grammar::reads_what_is_spelled;
 

@@ -1,6 +1,6 @@
 -- What the reader's loops keep, a step at a time.
-use Rattle.std.proofs.Common.{◌≡◌, ℕ, ◌<◌, ◌≤◌, List, [], ◌∷◌, ◌++◌, length, drop, true, false, Option, Some, None, Result, Ok, Err, refl, sym, ap, subst, ◌∙◌}
-use Rattle.std.proofs.Common.{arith, append_assoc}
+use Rattle.std.proofs.Common.{◌≡◌, ℕ, ◌<◌, ◌≤◌, List, [], ◌∷◌, ◌++◌, length, drop, true, false, Option, Some}
+use Rattle.std.proofs.Common.{None, Result, Ok, Err, refl, sym, ap, subst, ◌∙◌, arith, append_assoc}
 use Rattle.std.proofs.lemmas.List.{append-nil}
 use Rattle.std.proofs.lemmas.List.Elements.{All-nil, All-push, All-pop}
 use Rattle.fv_base.proofs.lemmas.Arena.{keeps_refl, keeps_trans}
@@ -11,10 +11,9 @@ use Rattle.fv_parse_tree.specs.declared.reader.Stop.{Stop}
 use Rattle.fv_parse_tree.specs.declared.reader.Stop.TheVariants as stops
 use Rattle.fv_parse_tree.specs.declared.pending.Pending.{Pending}
 use Rattle.fv_parse_grammar.specs.headline.Tree.{Tree, End, Binary}
-use Rattle.fv_parse_grammar.specs.Descent.{Step, ◌>>=◌, Turn, Done, Item, Nothing, run, all_separated, at_comma}
-use Rattle.fv_parse_grammar.specs.Descent.{Stop as Halts, Fault as Refused}
-use Rattle.fv_parse_grammar.proofs.lemmas.Loops.{run_next, run_done, run_stop, separated_step, separated_end, separated_stop, with_first, before, all_of, many_one, many_skip, many_done}
-use Rattle.fv_parse_grammar.proofs.lemmas.Loops.{many_stop}
+use Rattle.fv_parse_grammar.specs.Descent.{Step, ◌>>=◌, Turn, Done, Item, Nothing, run, all_separated, at_comma, Stop as Halts, Fault as Refused}
+use Rattle.fv_parse_grammar.proofs.lemmas.Loops.{run_next, run_done, run_stop, separated_step, separated_end, separated_stop}
+use Rattle.fv_parse_grammar.proofs.lemmas.Loops.{with_first, before, all_of, many_one, many_skip, many_done, many_stop}
 use Rattle.fv_parse_tree.specs.Arena.{tree_at, Keeps, forest, AreInside, lean, Joins, AllBelow}
 use Rattle.fv_parse_tree.specs.Gives.{Fails, Found, Turned, Ended, Stays, Itemized, Refuses, list_of, in_front}
 use Rattle.fv_parse_tree.proofs.lemmas.Arenas.{Under, Waits, forest_append, forest_keeps, below_more, lean_push, lean_keeps, inside_more}
@@ -88,7 +87,8 @@ module _ {A : Type 0} (item : List Symbol → Step A) where
 
     pub items_finish : (end : List Symbol) → at_comma rest ≡ false → end ≡ rest → whole ≡ Ok (all, end)
     items_finish end off is =
-        sym so_far ∙ ap (λ r. with_items xs r) (separated_end item ts x rest is_read off) ∙ ap (λ (ys : List A). let r : Step (List A) = Ok (ys, rest) in r) (sym grown)
+        sym so_far ∙ ap (λ r. with_items xs r) (separated_end item ts x rest is_read off)
+        ∙ ap (λ (ys : List A). let r : Step (List A) = Ok (ys, rest) in r) (sym grown)
         ∙ ap (λ (l : List Symbol). let r : Step (List A) = Ok (all, l) in r) (sym is)
 
   pub items_fail : (xs : List A) (ts at : List Symbol) (whole : Step (List A)) (e : Stop)

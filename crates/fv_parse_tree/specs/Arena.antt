@@ -7,8 +7,8 @@ use Rattle.fv_parse_tree.specs.declared.node.TreeNode.{TreeNode}
 use Rattle.fv_parse_tree.specs.declared.node.TreeNode.TheVariants as nodes
 use Rattle.fv_parse_tree.specs.declared.arena.Entry.{Entry}
 use Rattle.fv_parse_tree.specs.declared.pending.Pending.{Pending}
-use Rattle.fv_parse_grammar.specs.headline.Tree.{Tree, Number, Negative, Named, MinusNamed, Wire, Cut, Primitive, Group, Abstraction, Case, Waveform, Iteration, Ports, Switch, Slider}
-use Rattle.fv_parse_grammar.specs.headline.Tree.{Panel, Delayed, Apply, Binary, Where, Rule, Constant, Function, End, More}
+use Rattle.fv_parse_grammar.specs.headline.Tree.{Tree, Number, Negative, Named, MinusNamed, Wire, Cut, Primitive, Group, Abstraction, Case, Waveform, Iteration}
+use Rattle.fv_parse_grammar.specs.headline.Tree.{Ports, Switch, Slider, Panel, Delayed, Apply, Binary, Where, Rule, Constant, Function, End, More}
 
 -- the tree with this number
 abbrev pub tree_at : List Tree → TreeId → Tree

@@ -223,7 +223,8 @@ impl<'a> Reader<'a> {
     #[cycle(parser)]
     fn postfixes(&mut self, nesting: usize, start: usize, first: TreeId) -> Result<TreeId, Stop>
         requires { first < length (trees self.old.arena) }
-        ensures is { Gives self.old self.new result (run (postfix_turn (within nesting) start) (tree_at (trees self.old.arena) first) self.old.symbols.rest.now) }
+        ensures is { Gives self.old self.new result (run (postfix_turn (within nesting) start) (tree_at (trees self.old.arena) first)
+            self.old.symbols.rest.now) }
         ensures shorter { OnOk result (length self.new.symbols.rest.now ≤ length self.old.symbols.rest.now) }
     {
         let mut tree = first;

@@ -191,7 +191,8 @@ impl Reader<'_> {
         first: Option<TreeId>,
     ) -> Result<TreeId, Stop>
         requires { AllBelow (length (trees self.old.arena)) (list_of first) }
-        ensures is { Gives self.old self.new result (in_front (trees self.old.arena) (list_of first) (further (within nesting) items self.old.symbols.rest.now)) }
+        ensures is { Gives self.old self.new result (in_front (trees self.old.arena) (list_of first)
+            (further (within nesting) items self.old.symbols.rest.now)) }
         ensures shorter { OnOk result (length self.new.symbols.rest.now ≤ length self.old.symbols.rest.now) }
     {
         let mut parts = begun(self.alloc, first)?;

@@ -181,7 +181,8 @@ AreOfLeaves N C L (Merge a b) = AreOfLeaves N C L a × AreOfLeaves N C L b
 AreOfLeaves N C L (Rec a b) = AreOfLeaves N C L a × AreOfLeaves N C L b
 
 -- The calls of both keep the relation, where Holds s holds of the signals of the first after the call.
-pub record KeepAlong {V S T : Type 0} (h : Hooks ℕ S) (g : Hooks V T) (N : ℤ → Type 0) (C : ℕ → Type 0) (L : List ℤ → Type 0) (Good Holds : S → Type 0) (Q : ℕ → V → Type 0)
+pub record KeepAlong {V S T : Type 0} (h : Hooks ℕ S) (g : Hooks V T) (N : ℤ → Type 0) (C : ℕ → Type 0) (L : List ℤ → Type 0)
+    (Good Holds : S → Type 0) (Q : ℕ → V → Type 0)
     (R : S → T → Type 0) : Type 0 where
   pub leaf : (l : Leaf) (ws : List ℕ) (vs : List V) (s : S) (t : T) → IsOfLeaf N C l → length ws ≡ takes l → Good s → Holds (h.leaf l ws s).1 → R s t →
       AreRelated Q ws vs → Q (h.leaf l ws s).0 (g.leaf l vs t).0 × R (h.leaf l ws s).1 (g.leaf l vs t).1
@@ -194,7 +195,8 @@ pub record KeepAlong {V S T : Type 0} (h : Hooks ℕ S) (g : Hooks V T) (N : ℤ
   pub closed : (ws : List ℕ) (vs : List V) (s : S) (t : T) → Good s → Holds (h.closed ws s).1 → R s t → AreRelated Q ws vs
       → Gives Q R (h.closed ws s) (g.closed vs t)
 
-module _ {V S T : Type 0} (h : Hooks ℕ S) (g : Hooks V T) (N : ℤ → Type 0) (C : ℕ → Type 0) (L : List ℤ → Type 0) (Good : S → Type 0) (Onward : S → S → Type 0) (Holds : S → Type 0)
+module _ {V S T : Type 0} (h : Hooks ℕ S) (g : Hooks V T) (N : ℤ → Type 0) (C : ℕ → Type 0) (L : List ℤ → Type 0) (Good : S → Type 0)
+    (Onward : S → S → Type 0) (Holds : S → Type 0)
     (Q : ℕ → V → Type 0) (R : S → T → Type 0) (orderly : AreOrderly h Good Onward) (backs : HoldBack h Holds) (keeps : KeepAlong h g N C L Good Holds Q R)
     (v : V) (free : Q 0 v) where
   goes : (d : Diagram) (slots : ℕ → ℕ) (ws : List ℕ) (s : S) → IsWellFormed d → length ws ≡ inputs d → Good s →

@@ -1,6 +1,6 @@
 -- A graph that goes on from the walk's progress is wired as the diagram.
-use Rattle.std.proofs.Common.{◌≡◌, ℕ, zero, suc, ◌-◌, ◌<◌, ◌≤◌, List, [], ◌∷◌, ◌++◌, length, take, get_or, map, replicate, refl, sym, ap, ap₂, ◌∙◌, subst, arith}
-use Rattle.std.proofs.Common.{pos, nat_le, ◌%◌, ℤ, Bool, true}
+use Rattle.std.proofs.Common.{◌≡◌, ℕ, zero, suc, ◌-◌, ◌<◌, ◌≤◌, List, [], ◌∷◌, ◌++◌, length, take, get_or, map}
+use Rattle.std.proofs.Common.{replicate, refl, sym, ap, ap₂, ◌∙◌, subst, arith, pos, nat_le, ◌%◌, ℤ, Bool, true}
 use Rattle.std.proofs.lemmas.List.{take-map, length-set, length_push, get_or-set_same}
 use Rattle.std.proofs.lemmas.Bool.{cond-true, le-leb}
 use Rattle.std.proofs.lemmas.Int.{ints}
@@ -36,11 +36,11 @@ use Rattle.std.proofs.lemmas.Bool.{true≢false}
 use Rattle.fv_diagram.proofs.lemmas.Meaning.{Means, AreFaithful}
 use Rattle.fv_diagram.proofs.lemmas.Places.{takes_some}
 use Rattle.fv_propagate.specs.declared.progress.Feedback.{Feedback}
-use Rattle.fv_propagate.specs.inner.Progress.{Progress, put, puts, passed, put_mem, put_prefix, put_delay, opened_of, shut, closed_of, signal_hooks}
-use Rattle.fv_propagate.specs.inner.Progress.{AreNested, grouped, put_next, late_of, turned, counted_of, listed, tabled_of}
+use Rattle.fv_propagate.specs.inner.Progress.{Progress, put, puts, passed, put_mem, put_prefix, put_delay, opened_of, shut, closed_of}
+use Rattle.fv_propagate.specs.inner.Progress.{signal_hooks, AreNested, grouped, put_next, late_of, turned, counted_of, listed, tabled_of}
 use Rattle.fv_propagate.proofs.Puts.{StandsAt, put_at, puts_at, puts_wide, put_keeps, next_keeps}
-use Rattle.fv_propagate.proofs.Goes.{IsGood, Onward, GoesOn, filled, opened_long, nested_not_open, before_put, before_passed, before_puts, before_mem}
-use Rattle.fv_propagate.proofs.Goes.{before_prefix, before_opened, before_closed, before_counted, before_tabled}
+use Rattle.fv_propagate.proofs.Goes.{IsGood, Onward, GoesOn, filled, opened_long, nested_not_open, before_put, before_passed, before_puts}
+use Rattle.fv_propagate.proofs.Goes.{before_mem, before_prefix, before_opened, before_closed, before_counted, before_tabled}
 
 -- four operands, of which those that are there are the first
 pub padded_first : (n : ℕ) (ws : List ℕ) → 1 ≤ n → n ≤ 4 → length ws ≡ n → take n (padded ws) ≡ ws
@@ -179,7 +179,8 @@ module _ (F : Graph) (ordered : IsOrdered F) (X : List Frame) (c : ℕ → Strea
       let sum = put one.1 add in
       let many = put sum.1 (signal.Const (pos n)) in
       let rem = signal.Point Rem (padded (sum.0 ∷ many.0 ∷ [])) in
-      let g4 : IsPrefixOf many.1.draft.signals F.signals = prefix_trans many.1.draft.signals (put many.1 rem).1.draft.signals F.signals (put_keeps many.1 rem) g in
+      let g4 : IsPrefixOf many.1.draft.signals F.signals = prefix_trans many.1.draft.signals (put many.1 rem).1.draft.signals F.signals
+      (put_keeps many.1 rem) g in
       let g3 : IsPrefixOf sum.1.draft.signals F.signals =
       prefix_trans sum.1.draft.signals many.1.draft.signals F.signals (put_keeps sum.1 (signal.Const (pos n))) g4 in
       let g2 : IsPrefixOf one.1.draft.signals F.signals = prefix_trans one.1.draft.signals sum.1.draft.signals F.signals (put_keeps one.1 add) g3 in

@@ -1,6 +1,6 @@
 -- How progress goes on, and what a graph has that goes on from it.
-use Rattle.std.proofs.Common.{◌≡◌, ℕ, zero, suc, ◌+◌, ◌<◌, ◌≤◌, List, [], ◌∷◌, ◌++◌, length, get_or, pos, refl, sym, ap, ◌∙◌, subst, arith, Bool, true, false, ℤ}
-use Rattle.std.proofs.Common.{inl, inr}
+use Rattle.std.proofs.Common.{◌≡◌, ℕ, zero, suc, ◌+◌, ◌<◌, ◌≤◌, List, [], ◌∷◌, ◌++◌, length, get_or}
+use Rattle.std.proofs.Common.{pos, refl, sym, ap, ◌∙◌, subst, arith, Bool, true, false, ℤ, inl, inr}
 use Rattle.std.specs.Prelude.{slice_set}
 use Rattle.std.proofs.lemmas.Bool.{cases_lt, cases_eq}
 use Rattle.std.proofs.lemmas.List.{length_push, get_or_append_left, length-set, get_or-set_same, get_or-set_other}
@@ -16,11 +16,11 @@ use Rattle.fv_diagram.specs.declared.signals.Leaf.TheVariants as leaf
 use Rattle.fv_diagram.specs.Hooks.{padded}
 use Rattle.fv_diagram.proofs.lemmas.Meaning.{AreOrderly}
 use Rattle.fv_propagate.specs.declared.progress.Feedback.{Feedback}
-use Rattle.fv_propagate.specs.inner.Progress.{Progress, put, puts, passed, grouped, put_mem, put_prefix, leaf_of, opened_of, shut, closed_of, signal_hooks, AreNested}
-use Rattle.fv_propagate.specs.inner.Progress.{counted_of, turned, listed, table_node, tabled_of}
+use Rattle.fv_propagate.specs.inner.Progress.{Progress, put, puts, passed, grouped, put_mem, put_prefix, leaf_of, opened_of, shut}
+use Rattle.fv_propagate.specs.inner.Progress.{closed_of, signal_hooks, AreNested, counted_of, turned, listed, table_node, tabled_of}
 use Rattle.fv_share.proofs.lemmas.Puts.{tables_stand}
-use Rattle.fv_propagate.proofs.Puts.{put_keeps, puts_keep, puts_wide, puts_groups, puts_closed, puts_feedbacks, puts_tables, turned_keeps}
-use Rattle.fv_propagate.proofs.Puts.{listed_signals, listed_groups, listed_closed}
+use Rattle.fv_propagate.proofs.Puts.{put_keeps, puts_keep, puts_wide, puts_groups, puts_closed, puts_feedbacks}
+use Rattle.fv_propagate.proofs.Puts.{puts_tables, turned_keeps, listed_signals, listed_groups, listed_closed}
 use Rattle.fv_propagate.proofs.Alongside.{HoldBack}
 
 -- ---- the laws without meaning
@@ -125,7 +125,8 @@ fill_on n outs z s g o =
       closed = λ h j a b. elim (cases_eq j k) [
         | inl e ↦ ap (λ i. get_or (slice_set s.draft.closed k true) i false) e
             ∙ get_or-set_same s.draft.closed k true false (omega (arith, marked, o.groups, more))
-        | inr ne ↦ set_stays s.draft.closed k j (o.closed (open_good n z g).marked j (omega (arith, a, more)) (omega (arith, b, length-set s.draft.groups k outs)))
+        | inr ne ↦ set_stays s.draft.closed k j (o.closed (open_good n z g).marked j (omega (arith, a, more))
+            (omega (arith, b, length-set s.draft.groups k outs)))
       ];
     }
 

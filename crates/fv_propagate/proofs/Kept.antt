@@ -250,7 +250,8 @@ can_give s p q g n late next e f pending backs inner =
 
 pub given_keeps_progress : (s : Progress) (g : ℕ) (members : List ℕ) → AreNested g s.feedbacks → IsProgress s → IsProgress (given s g members)
 given_keeps_progress s g members k h = record {
-  nested = wider (length s.draft.groups) (length (slice_set s.draft.groups g members)) s.feedbacks (omega (arith, length-set s.draft.groups g members)) h.nested;
+  nested = wider (length s.draft.groups) (length (slice_set s.draft.groups g members)) s.feedbacks
+      (omega (arith, length-set s.draft.groups g members)) h.nested;
   pending = open_members s.draft g g members s.feedbacks (omega arith) k h.pending;
 }
 

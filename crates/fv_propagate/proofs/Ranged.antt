@@ -1,6 +1,6 @@
 -- The values of the graph lie in the spans of the diagram's wires, and no delay is clamped.
-use Rattle.std.proofs.Common.{◌≡◌, ℕ, zero, suc, ◌+◌, ◌-◌, ◌<◌, ◌≤◌, List, [], ◌∷◌, ◌++◌, length, drop, map, get_or, refl, sym, ap, ◌∙◌, subst, arith, ℤ, pos, Bool, All}
-use Rattle.std.proofs.Common.{negsuc, inl, inr, true, false, if◌then◌else◌, nat_le, w32, FitsSigned, unsigned_abs, ◌≤ℤ◌}
+use Rattle.std.proofs.Common.{◌≡◌, ℕ, zero, suc, ◌+◌, ◌-◌, ◌<◌, ◌≤◌, List, [], ◌∷◌, ◌++◌, length, drop, map, get_or, refl, sym, ap, ◌∙◌, subst, arith}
+use Rattle.std.proofs.Common.{ℤ, pos, Bool, All, negsuc, inl, inr, true, false, if◌then◌else◌, nat_le, w32, FitsSigned, unsigned_abs, ◌≤ℤ◌}
 use Rattle.std.proofs.lemmas.Int.{ints, clamps}
 use Rattle.std.proofs.lemmas.List.{length_push, length-append, drop-drop, get_or-drop, get_or-map, get_or_push, take-map}
 use Rattle.std.proofs.lemmas.List.Elements.{All-get_or, All-from_get_or}
@@ -19,8 +19,7 @@ use Rattle.fv_signal.specs.declared.signal.Signal.TheVariants.{Const, Control, P
 use Rattle.fv_signal.specs.headline.Value.{Graph, clamped, value, IsOrdered}
 use Rattle.fv_diagram.specs.declared.signals.Leaf.{Leaf}
 use Rattle.fv_diagram.specs.declared.signals.Leaf.TheVariants as leaf
-use Rattle.fv_diagram.specs.Hooks.{takes}
-use Rattle.fv_diagram.specs.Hooks.{padded}
+use Rattle.fv_diagram.specs.Hooks.{takes, padded}
 use Rattle.fv_diagram.proofs.lemmas.Places.{prefix_long, prefix_get, prefix_snoc}
 use Rattle.fv_diagram.proofs.lemmas.Related.{AreRelated, Gives}
 use Rattle.fv_diagram.proofs.lemmas.Places.{takes_some}
@@ -30,8 +29,8 @@ use Rattle.fv_interval.specs.headline.Laws.{IsOf}
 use Rattle.fv_interval.specs.headline.Delays.{amount, amounts, delay_limit}
 use Rattle.fv_interval.specs.Delays.{AreDelays, IsDelay}
 use Rattle.fv_propagate.specs.declared.progress.Feedback.{Feedback}
-use Rattle.fv_propagate.specs.inner.Progress.{Progress, put, puts, passed, grouped, put_mem, put_prefix, leaf_of, opened_of, shut, signal_hooks, AreNested}
-use Rattle.fv_propagate.specs.inner.Progress.{late_of, turned, counted_of, listed, table_node, tabled_of}
+use Rattle.fv_propagate.specs.inner.Progress.{Progress, put, puts, passed, grouped, put_mem, put_prefix, leaf_of, opened_of, shut}
+use Rattle.fv_propagate.specs.inner.Progress.{signal_hooks, AreNested, late_of, turned, counted_of, listed, table_node, tabled_of}
 use Rattle.fv_propagate.proofs.Alongside.{IsOfLeaf, KeepAlong, related_at, related_places, related_length}
 use Rattle.fv_propagate.proofs.Puts.{put_cases, put_at, puts_at, puts_wide, puts_delays, next_keeps, listed_is}
 use Rattle.fv_propagate.proofs.Goes.{IsGood, GoesOn, filled, before_put, before_mem}

@@ -122,8 +122,10 @@ module _ (d : Diagram) (delays : List ℕ) (wf : IsWellFormed d) (free : HasNoFr
         let begun : named first.1 =
         named_puts n b IsLimit none one Input n (started delays) (λ i l. l)
         (named_put n b IsLimit none one (unstarted delays) (Const (pos 0)) zero_fits empty) in
-        (walked_along signal_hooks still (FitsSigned w32) b AreNumbers IsGood Onward (GoesOn graph) Any (λ s u. named s) signals_are_orderly (signals_hold_back graph)
-        (names_keep n b IsLimit none one AreNumbers (λ T h. h.counted) (GoesOn graph)) tt tt d no_slots (λ i. tt) first.0 (table n (λ i. tt)) first.1 tt wf first_wide
+        (walked_along signal_hooks still (FitsSigned w32) b AreNumbers IsGood Onward (GoesOn graph) Any (λ s u. named s) signals_are_orderly
+        (signals_hold_back graph)
+        (names_keep n b IsLimit none one AreNumbers (λ T h. h.counted) (GoesOn graph)) tt tt d no_slots (λ i. tt) first.0 (table n (λ i. tt)) first.1
+        tt wf first_wide
         (leaves_had b AreNumbers d (lists_had d numbers) numbers (λ k h. h)) first_good goes_on (λ i. tt) begun
         (related_places Any first.0 (table n (λ i. tt)) 0 tt (first_wide ∙ sym (length_table n (λ i. tt))) (λ i l. tt))).1
 
@@ -175,9 +177,11 @@ module _ (d : Diagram) (delays : List ℕ) (wf : IsWellFormed d) (free : HasNoFr
         subst (Q (get_or first.0 i 0)) (sym (get_or_table n (λ i. full) i full m))
         (anywhere (get_or first.0 i 0) (puts_at graph Input n (started delays) i m first_goes_on.signals).within)) in
         let end = walked span_hooks full d (λ i. full) F u in
-        let all = walked_along signal_hooks span_hooks (FitsSigned w32) C AreNumbers IsGood Onward (GoesOn graph) Q R signals_are_orderly (signals_hold_back graph) keeps
+        let all = walked_along signal_hooks span_hooks (FitsSigned w32) C AreNumbers IsGood Onward (GoesOn graph) Q R signals_are_orderly
+        (signals_hold_back graph) keeps
         full
-        (anywhere 0 some) d no_slots (λ i. full) first.0 F first.1 u wf first_wide (leaves_had b AreNumbers d (lists_had d numbers) numbers (λ k h. h)) first_good goes_on
+        (anywhere 0 some) d no_slots (λ i. full) first.0 F first.1 u wf first_wide
+        (leaves_had b AreNumbers d (lists_had d numbers) numbers (λ k h. h)) first_good goes_on
         (λ i. anywhere 0 some) begun there in
         let noted : end.1.delays ≡ L = delays_are d spans F end.0 n full u end.1 wf refl refl refl refl refl in
         all.1.ranged (subst (λ l. IsPrefixOf l L) (sym noted) (prefix_refl L))

@@ -1,6 +1,6 @@
 -- More depth than visits changes nothing, so evaluation follows its rules.
-use Rattle.std.proofs.Common.{◌≡◌, ℕ, zero, suc, ◌-◌, ◌≤◌, Bool, true, false, List, [], ◌∷◌, ◌++◌, length, Option, Some, None, Ok, Err, ℤ, pos}
-use Rattle.std.proofs.Common.{negsuc, map, refl, sym, ap, ◌∙◌, arith}
+use Rattle.std.proofs.Common.{◌≡◌, ℕ, zero, suc, ◌-◌, ◌≤◌, Bool, true, false, List, [], ◌∷◌, ◌++◌, length}
+use Rattle.std.proofs.Common.{Option, Some, None, Ok, Err, ℤ, pos, negsuc, map, refl, sym, ap, ◌∙◌, arith}
 use Rattle.std.specs.Prelude.{nat_le, nat_lt, nat_eq, ◌&&◌, int_le, if◌then◌else◌}
 use Rattle.fv_lex.specs.headline.Token.{Lexed}
 use Rattle.fv_parse_grammar.specs.headline.Tree.{Tree, items, start_of}
@@ -21,18 +21,17 @@ use Rattle.fv_diagram.specs.declared.control.ControlInfo.{ControlInfo}
 use Rattle.fv_rules.specs.declared.refusal.EvalRefusal.{EvalRefusal}
 use Rattle.fv_rules.specs.declared.refusal.EvalRefusal.TheVariants.{EvalBudget}
 use Rattle.fv_parse.specs.headline.Trees.{text_of, label_of}
-use Rattle.fv_rules.specs.headline.Values.{Name, Value, Flat, Abstraction, Rules, Env, Bound, Scope, And, Definition, Plain, Parameters, Cases, Meaning}
-use Rattle.fv_rules.specs.headline.Values.{IsValue, IsDefined, Unknown, lookup, in_order, count_taken}
+use Rattle.fv_rules.specs.headline.Values.{Name, Value, Flat, Abstraction, Rules, Env, Bound, Scope, And, Definition, Plain}
+use Rattle.fv_rules.specs.headline.Values.{Parameters, Cases, Meaning, IsValue, IsDefined, Unknown, lookup, in_order, count_taken}
 use Rattle.fv_rules.specs.headline.Matching.{Bindings, settled, value_number, bound_in, chosen}
 use Rattle.fv_rules.specs.headline.Steps.{State, Outcome, Eval, after, ◌>>=◌, give, refuse, spent, visit, fresh_slots, misfit, put_after, put_as, put, is_alike}
 use Rattle.fv_diagram_head.specs.headline.Heads.{parts, cut, is_head, table_numbers}
-use Rattle.fv_rules.specs.headline.Steps.{sized, side_by_side, table_size, grow, table_limit, tabled_by, tabled, waved}
-use Rattle.fv_rules.specs.headline.Steps.{before_table}
-use Rattle.fv_rules.specs.headline.Steps.{labelled, entered, control}
-use Rattle.fv_rules.specs.headline.Rules.{literal_value, primitive_of, switch_kind, slider_kind, Evaluator, flat, on_slots, bind_all, turned, operated, joined, from_right}
-use Rattle.fv_rules.specs.headline.Rules.{from_left, defined_value, meant, name_value, arguments, all_turned, wires, all_outputs, takes_the_right, led, fed_by}
-use Rattle.fv_rules.specs.headline.Rules.{fed, width, selected, applied, bodies, gathered, counted, read_number, parameters, slider_info, switch_info}
-use Rattle.fv_rules.specs.headline.Rules.{abstraction, rule, visited, descend, within, ev}
+use Rattle.fv_rules.specs.headline.Steps.{sized, side_by_side, table_size, grow, table_limit, tabled_by}
+use Rattle.fv_rules.specs.headline.Steps.{tabled, waved, before_table, labelled, entered, control}
+use Rattle.fv_rules.specs.headline.Rules.{literal_value, primitive_of, switch_kind, slider_kind, Evaluator, flat, on_slots, bind_all, turned}
+use Rattle.fv_rules.specs.headline.Rules.{operated, joined, from_right, from_left, defined_value, meant, name_value, arguments, all_turned, wires}
+use Rattle.fv_rules.specs.headline.Rules.{all_outputs, takes_the_right, led, fed_by, fed, width, selected, applied, bodies, gathered, counted}
+use Rattle.fv_rules.specs.headline.Rules.{read_number, parameters, slider_info, switch_info, abstraction, rule, visited, descend, within, ev}
 
 -- ---- what does not raise the visits, and what agrees below a number of visits
 abbrev pub AtMost : {A : Type 0} → ℕ → Outcome A → Type 0

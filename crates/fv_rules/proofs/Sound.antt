@@ -1,6 +1,6 @@
 -- Every diagram of evaluation is composed, has only the free slots of its environment, and names only the controls so far.
-use Rattle.std.proofs.Common.{inl, inr, ◌≡◌, ◌⊎◌, ℕ, zero, suc, ◌+◌, ◌≤◌, ◌<◌, Bool, true, false, List, [], ◌∷◌, ◌++◌, length, Option}
-use Rattle.std.proofs.Common.{Some, None, Result, Ok, Err, ℤ, pos, negsuc, map, refl, subst, arith}
+use Rattle.std.proofs.Common.{inl, inr, ◌≡◌, ◌⊎◌, ℕ, zero, suc, ◌+◌, ◌≤◌, ◌<◌, Bool, true, false, List, [], ◌∷◌, ◌++◌}
+use Rattle.std.proofs.Common.{length, Option, Some, None, Result, Ok, Err, ℤ, pos, negsuc, map, refl, subst, arith}
 use Rattle.std.proofs.lemmas.Int.{ints}
 use Rattle.std.proofs.lemmas.List.{length-append}
 use Rattle.std.proofs.Math.Dec.{eqb}
@@ -21,27 +21,27 @@ use Rattle.fv_diagram.specs.declared.node.Primitive.TheVariants as prim
 use Rattle.fv_diagram.specs.headline.Diagram.{Diagram, Primitive, Constant, Control, Slot, Bind, Par, Seq, Split, Merge, Rec, has_table_primitive}
 use Rattle.fv_diagram.specs.declared.control.ControlInfo.{ControlInfo}
 use Rattle.fv_rules.specs.declared.refusal.EvalRefusal.{EvalRefusal}
-use Rattle.fv_rules.specs.declared.refusal.EvalRefusal.TheVariants.{IterationCount, UnknownName, EvalBudget}
-use Rattle.fv_rules.specs.declared.refusal.EvalRefusal.TheVariants.{ControlClash, ControlBounds, TableForm, NoMemory}
+use Rattle.fv_rules.specs.declared.refusal.EvalRefusal.TheVariants.{IterationCount, UnknownName, EvalBudget, ControlClash, ControlBounds, TableForm, NoMemory}
 use Rattle.fv_rules.specs.declared.refusal.TableCause.TheVariants as cause
 use Rattle.fv_parse.specs.headline.Trees.{text_of, label_of}
 use Rattle.fv_rules.specs.headline.Values.{Name, Rule, Value, Flat, Abstraction, Rules, Env, Outermost, Bound, Scope, Taken, Nothing, And, Definition, Plain}
 use Rattle.fv_rules.specs.headline.Values.{Parameters, Cases, Meaning, IsValue, IsDefined, Unknown, lookup, or_else as meant_or, in_order, count_taken}
 use Rattle.fv_diagram_head.specs.Numbers.{number_of}
-use Rattle.fv_rules.specs.headline.Matching.{Bindings, number_or, settled, and_then, parts_of, parts_without, value_parts, value_number}
-use Rattle.fv_rules.specs.headline.Matching.{matched, all_matched, bound_in, or_next, chosen}
-use Rattle.fv_rules.specs.headline.Steps.{State, Outcome, Eval, after, ◌>>=◌, no_number, no_rule, no_diagram, spent, visit, fresh_slots}
-use Rattle.fv_rules.specs.headline.Steps.{give, refuse, whole, is_alike, labelled, entered, control}
-use Rattle.fv_rules.specs.headline.Rules.{literal_value, primitive_of, switch_kind, slider_kind, Evaluator, flat, on_slots, bind_all, turned, operated}
-use Rattle.fv_rules.specs.headline.Rules.{defined_value, meant, name_value, arguments, all_turned, width, selected, applied}
-use Rattle.fv_rules.specs.headline.Rules.{bodies, counted, ports, read_number, parameters, slider_info, switch_info, abstraction, rule, descend}
-use Rattle.fv_rules.specs.headline.Rules.{within, ev, finished, start, program_value}
+use Rattle.fv_rules.specs.headline.Matching.{Bindings, number_or, settled, and_then, parts_of, parts_without}
+use Rattle.fv_rules.specs.headline.Matching.{value_parts, value_number, matched, all_matched, bound_in, or_next, chosen}
+use Rattle.fv_rules.specs.headline.Steps.{State, Outcome, Eval, after, ◌>>=◌, no_number, no_rule, no_diagram, spent}
+use Rattle.fv_rules.specs.headline.Steps.{visit, fresh_slots, give, refuse, whole, is_alike, labelled, entered, control}
+use Rattle.fv_rules.specs.headline.Rules.{literal_value, primitive_of, switch_kind, slider_kind, Evaluator, flat, on_slots}
+use Rattle.fv_rules.specs.headline.Rules.{bind_all, turned, operated, defined_value, meant, name_value, arguments, all_turned}
+use Rattle.fv_rules.specs.headline.Rules.{width, selected, applied, bodies, counted, ports, read_number, parameters, slider_info}
+use Rattle.fv_rules.specs.headline.Rules.{switch_info, abstraction, rule, descend, within, ev, finished, start, program_value}
 use Rattle.fv_rules.specs.Runnable.{IsRunnable}
 use Rattle.fv_diagram.specs.Controls.{IsBounded}
-use Rattle.fv_rules.proofs.SoundValues.{IsSound, SoundValue, SoundEnv, SoundTaken, SoundState, AllSound, AllValues, sound_grows, env_grows}
-use Rattle.fv_rules.proofs.SoundValues.{keep, keep_value, keep_env, keep_all, keep_values, all_snoc, values_snoc}
+use Rattle.fv_rules.proofs.SoundValues.{IsSound, SoundValue, SoundEnv, SoundTaken, SoundState, AllSound, AllValues, sound_grows}
+use Rattle.fv_rules.proofs.SoundValues.{env_grows, keep, keep_value, keep_env, keep_all, keep_values, all_snoc, values_snoc}
 use Rattle.fv_rules.proofs.SoundValues.{IsCause, spare, Stays, Does, bind_does, give_does, refuse_does, lend, choice}
-use Rattle.fv_rules.proofs.SoundCompositions.{waved_does, put_does, prim_sound, constant_sound, slot_sound, flat_does, operated_does, joined_does, gathered_does, fed_does}
+use Rattle.fv_rules.proofs.SoundCompositions.{waved_does, put_does, prim_sound, constant_sound, slot_sound}
+use Rattle.fv_rules.proofs.SoundCompositions.{flat_does, operated_does, joined_does, gathered_does, fed_does}
 
 -- ---- slots
 abbrev Within : ℕ → ℕ → (ℕ → Type 0) → ℕ → Type 0
@@ -111,11 +111,15 @@ halves S k a b g =
     )
 
 parts_sound : (S : ℕ → Type 0) (k : ℕ) (o : Operator) (d : Diagram) → IsSound S k d → SomeParts S k (parts_of o d)
-parts_sound S k operators.Recursion (Rec a b) g = halves S k a b (record { composed = (g.composed.0, g.composed.1); within = g.within; free = g.free; reads = g.reads })
+parts_sound S k operators.Recursion (Rec a b) g = halves S k a b
+    (record { composed = (g.composed.0, g.composed.1); within = g.within; free = g.free; reads = g.reads })
 parts_sound S k operators.Parallel (Par a b) g = halves S k a b g
-parts_sound S k operators.Sequence (Seq a b) g = halves S k a b (record { composed = (g.composed.0, g.composed.1); within = g.within; free = g.free; reads = g.reads })
-parts_sound S k operators.Split (Split a b) g = halves S k a b (record { composed = (g.composed.0, g.composed.1); within = g.within; free = g.free; reads = g.reads })
-parts_sound S k operators.Merge (Merge a b) g = halves S k a b (record { composed = (g.composed.0, g.composed.1); within = g.within; free = g.free; reads = g.reads })
+parts_sound S k operators.Sequence (Seq a b) g = halves S k a b
+    (record { composed = (g.composed.0, g.composed.1); within = g.within; free = g.free; reads = g.reads })
+parts_sound S k operators.Split (Split a b) g = halves S k a b
+    (record { composed = (g.composed.0, g.composed.1); within = g.within; free = g.free; reads = g.reads })
+parts_sound S k operators.Merge (Merge a b) g = halves S k a b
+    (record { composed = (g.composed.0, g.composed.1); within = g.within; free = g.free; reads = g.reads })
 parts_sound S k o d g = tt
 
 without_sound : (S : ℕ → Type 0) (k : ℕ) (n : Option ℤ) (o : Operator) (d : Diagram) → IsSound S k d → SomeParts S k (parts_without n o d)

@@ -1,6 +1,6 @@
 -- Compositions of sound diagrams: each is sound, or refused for a cause.
-use Rattle.std.proofs.Common.{inl, inr, ◌≡◌, ◌⊎◌, ℕ, zero, suc, ◌-◌, ◌%◌, ◌≤◌, Bool, true, false, List, [], ◌∷◌, ◌++◌, Option}
-use Rattle.std.proofs.Common.{Some, None, Ok, Err, ℤ, pos, refl, sym, subst, arith}
+use Rattle.std.proofs.Common.{inl, inr, ◌≡◌, ◌⊎◌, ℕ, zero, suc, ◌-◌, ◌%◌, ◌≤◌, Bool, true, false, List, []}
+use Rattle.std.proofs.Common.{◌∷◌, ◌++◌, Option, Some, None, Ok, Err, ℤ, pos, refl, sym, subst, arith}
 use Rattle.std.specs.Prelude.{nat_le, nat_lt, nat_eq, ◌&&◌, ◌≢◌, if◌then◌else◌}
 use Rattle.std.proofs.lemmas.Bool.{and_parts, leb-true, eqb-true}
 use Rattle.std.proofs.lemmas.Option.{none-some}
@@ -11,8 +11,7 @@ use Rattle.fv_parse_grammar.specs.declared.form.Iteration.TheVariants as repetit
 use Rattle.fv_diagram.specs.Op.TheVariants as op
 use Rattle.fv_diagram.specs.declared.node.Primitive.{Primitive as Prim}
 use Rattle.fv_diagram.specs.declared.node.Primitive.TheVariants as prim
-use Rattle.fv_diagram.specs.headline.Diagram.{Diagram, Primitive, Constant, Slot, Table, Bind, Par, Seq, Split, Merge, Rec, size, inputs, outputs}
-use Rattle.fv_diagram.specs.headline.Diagram.{table_inputs}
+use Rattle.fv_diagram.specs.headline.Diagram.{Diagram, Primitive, Constant, Slot, Table, Bind, Par, Seq, Split, Merge, Rec, size, inputs, outputs, table_inputs}
 use Rattle.fv_diagram_head.specs.Numbers.{at_first}
 use Rattle.fv_diagram.specs.Words.{argument}
 use Rattle.std.specs.List.{list_all}
@@ -30,9 +29,10 @@ use Rattle.fv_diagram_head.proofs.lemmas.Outputs.{cut_outputs, parts_outputs}
 use Rattle.fv_rules.specs.headline.Steps.{side_by_side, table_size, grow, table_limit, tabled_by, tabled, waved}
 use Rattle.fv_rules.specs.declared.refusal.EvalRefusal.TheVariants.{TableForm, TableBudget}
 use Rattle.fv_rules.specs.declared.refusal.TableCause.TheVariants as cause
-use Rattle.fv_rules.specs.headline.Rules.{primitive_of, flat, operated, joined, from_right, from_left, gathered, wires, all_outputs, takes_the_right, led, fed_by, fed}
-use Rattle.fv_rules.proofs.SoundValues.{IsSound, SoundValue, SoundState, keep, AllSound, keep_all, all_append, IsCause, Stays, Does}
-use Rattle.fv_rules.proofs.SoundValues.{bind_does, give_does, refuse_does, choice}
+use Rattle.fv_rules.specs.headline.Rules.{primitive_of, flat, operated, joined, from_right, from_left}
+use Rattle.fv_rules.specs.headline.Rules.{gathered, wires, all_outputs, takes_the_right, led, fed_by, fed}
+use Rattle.fv_rules.proofs.SoundValues.{IsSound, SoundValue, SoundState, keep, AllSound, keep_all, all_append}
+use Rattle.fv_rules.proofs.SoundValues.{IsCause, Stays, Does, bind_does, give_does, refuse_does, choice}
 
 -- ---- putting
 

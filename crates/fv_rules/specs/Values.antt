@@ -1,5 +1,5 @@
--- What calls say beside `headline/Values`: values and environments, and what a name stands for (Faust manual; this project's profile). They are trees; the code keeps
--- arenas. A name is its bytes.
+-- What calls say beside `headline/Values`: values and environments, and what a name stands for (Faust manual; this project's profile). They
+-- are trees; the code keeps arenas. A name is its bytes.
 use Rattle.std.specs.Prelude.{◌≡◌, ℕ, ◌≤◌, pos, neg_ℤ}
 use Rattle.fv_lex.specs.headline.Pieces.{greatest_literal}
 use Rattle.fv_diagram.specs.Words.{wrap}

@@ -59,6 +59,9 @@ lists_equal [] (y ∷ ys) h = absurd cc
 lists_equal (x ∷ xs) [] h = absurd cc
 lists_equal (x ∷ xs) (y ∷ ys) h = ap₂ (λ a b. a ∷ b) (ints_same x y (and_left _ _ h)) (lists_equal xs ys (and_right _ _ h))
 
+not_true : false ≡ true → ⊥
+not_true h = cc
+
 pub same_equal : (x y : Signal) → same x y ≡ true → x ≡ y
 same_equal (Input a) (Input b) h = ap Input (eqb-true a b h)
 same_equal (Const a) (Const b) h = grind (arith, nat_tests)
@@ -78,7 +81,7 @@ same_equal (Write t w x r) (Write u a b c) h =
     let q = and_right (nat_eq t u) _ p in
     let m = and_right (nat_eq w a) _ q in
     writes (eqb-true t u (and_left _ _ p)) (eqb-true w a (and_left _ _ q)) (eqb-true x b (and_left _ _ m)) (eqb-true r c (and_right _ _ m))
-same_equal x y h = absurd cc
+same_equal x y h = absurd (not_true h)
 
 pub same_self : (x : Signal) → same x x ≡ true
 same_self (Input a) = eq-eqb a a refl

@@ -1,13 +1,13 @@
 // The builder.
 
-ghost use Rattle.std.specs.Prelude.{◌≡◌, ◌↔◌, ℕ, ◌+◌, ◌<◌, [], ◌∷◌, ◌++◌, length, All, IfOk, OnOk, OnErr, slice_index_or, slice_set, true, false, vec_len, ◌^◌};
-ghost use Rattle.std.specs.Prelude.{take, FitsSigned};
+ghost use Rattle.std.specs.Prelude.{◌≡◌, ◌↔◌, ℕ, ◌+◌, ◌<◌, [], ◌∷◌, ◌++◌, length, All, IfOk, OnOk, OnErr};
+ghost use Rattle.std.specs.Prelude.{slice_index_or, slice_set, true, false, vec_len, ◌^◌, take, FitsSigned};
 ghost use Rattle.std.specs.Int.{w32};
 ghost use Rattle.std.specs.List.{position_or_len};
 ghost use Rattle.fv_signal.specs.declared.signal.Signal.{Signal as Node};
 ghost use Rattle.fv_signal.specs.headline.Value.{HasNumber, IsGraph};
-ghost use Rattle.fv_share.specs.Drafts.{table_in, with_table, with_tables, same_list, put_table};
-ghost use Rattle.fv_share.specs.Drafts.{CanPut, OperandsThere, IsPending, IsShut, BacksWithin, AreClosed, put, with_group, with_groups, with_members, graph_of, lists_in, CanClose, with_all_members};
+ghost use Rattle.fv_share.specs.Drafts.{table_in, with_table, with_tables, same_list, put_table, CanPut, OperandsThere, IsPending, IsShut, BacksWithin};
+ghost use Rattle.fv_share.specs.Drafts.{AreClosed, put, with_group, with_groups, with_members, graph_of, lists_in, CanClose, with_all_members};
 
 use fv_signal::{Graph, Signal, SignalId};
 use indexmap::IndexSet;

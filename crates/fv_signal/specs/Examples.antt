@@ -57,6 +57,7 @@ wave = record {
   outputs = 3 ∷ 5 ∷ [];
 }
 
-turns : (value wave 5 [] (λ k t. pos 0) 0 ≡ pos 10) × (value wave 5 [] (λ k t. pos 0) 1 ≡ negsuc 19) × (value wave 5 [] (λ k t. pos 0) 2 ≡ pos 30) × (value wave 5 [] (λ k t. pos 0) 3 ≡ pos 10)
+turns : (value wave 5 [] (λ k t. pos 0) 0 ≡ pos 10) × (value wave 5 [] (λ k t. pos 0) 1 ≡ negsuc 19)
+    × (value wave 5 [] (λ k t. pos 0) 2 ≡ pos 30) × (value wave 5 [] (λ k t. pos 0) 3 ≡ pos 10)
 unfolding int_wrap
 turns = (refl, refl, refl, refl)

@@ -18,13 +18,22 @@ some rooms x = slice_index_or rooms x None
 
 -- process = _ : @(2) : @(3);
 abbrev chain : Graph
-chain = record { signals = Const (pos 0) ∷ Input 0 ∷ Const (pos 2) ∷ Delay 1 2 2 ∷ Const (pos 3) ∷ Delay 3 4 3 ∷ []; groups = []; tables = []; outputs = 5 ∷ [] }
+chain = record {
+  signals = Const (pos 0) ∷ Input 0 ∷ Const (pos 2) ∷ Delay 1 2 2 ∷ Const (pos 3) ∷ Delay 3 4 3 ∷ [];
+  groups = [];
+  tables = [];
+  outputs = 5 ∷ [];
+}
 
 folded_chain : rebuilt chain all [] no_room ≡ chain
 folded_chain = refl
 
-joined_chain : rebuilt chain all [] (some (Some 0 ∷ Some 2 ∷ Some 0 ∷ Some 3 ∷ [])) ≡ record
-    { signals = Const (pos 0) ∷ Input 0 ∷ Const (pos 2) ∷ Delay 1 2 2 ∷ Const (pos 3) ∷ Const (pos 5) ∷ Delay 1 5 5 ∷ []; groups = []; tables = []; outputs = 6 ∷ [] }
+joined_chain : rebuilt chain all [] (some (Some 0 ∷ Some 2 ∷ Some 0 ∷ Some 3 ∷ [])) ≡ record {
+  signals = Const (pos 0) ∷ Input 0 ∷ Const (pos 2) ∷ Delay 1 2 2 ∷ Const (pos 3) ∷ Const (pos 5) ∷ Delay 1 5 5 ∷ [];
+  groups = [];
+  tables = [];
+  outputs = 6 ∷ [];
+}
 joined_chain = refl
 
 reaches : (reach chain ≡ 5) × (reach (rebuilt chain all [] (some (Some 0 ∷ Some 2 ∷ Some 0 ∷ Some 3 ∷ []))) ≡ 5)

@@ -9,7 +9,8 @@ use Rattle.fv_signal.specs.headline.Value.{Graph, value, OperandsBelow, IsGraph}
 use Rattle.fv_simplify_rules.specs.Nodes.{node, StandsAt, number, number_at}
 use Rattle.fv_simplify_rules.specs.Reducible.{AreSmall, StayWithin}
 use Rattle.fv_simplify_rules.specs.Rebuilt.{back_by, base, IsRebuilt}
-use Rattle.fv_simplify_rules.proofs.lemmas.Origins.{Origin, OfNumber, OfInput, OfControl, OfBack, OfRead, OfWrite, OfPoint, OfLate, OfVarying, origin, tight, delay_on}
+use Rattle.fv_simplify_rules.proofs.lemmas.Origins.{Origin, OfNumber, OfInput, OfControl, OfBack, OfRead, OfWrite}
+use Rattle.fv_simplify_rules.proofs.lemmas.Origins.{OfPoint, OfLate, OfVarying, origin, tight, delay_on}
 use Rattle.fv_simplify_rules.proofs.Values.{same, number_is}
 
 pub back_least : (most : ℕ) (c : ℤ) → back_by most c ≤ most

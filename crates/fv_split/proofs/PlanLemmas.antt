@@ -372,9 +372,11 @@ module _ (g : Graph) (p : Lanes) (stands : Vec ℕ Global) (bases kinds : Vec Ki
 
     plan_names : PlanNames g plan
     plan_names = record {
-      held = λ j k. each_plan_code (λ ss. NamesHeld ss k → k < length steps) (λ n. absurd (omega (arith, n.1))) (λ j l n. held_counted g names (roles_of plan j) nothing []
+      held = λ j k. each_plan_code (λ ss. NamesHeld ss k → k < length steps) (λ n. absurd (omega (arith, n.1)))
+          (λ j l n. held_counted g names (roles_of plan j) nothing []
           (code_of plan j) (fits_plan j l) k n) j;
-      inputs = λ j i. each_plan_code (λ ss. NamesInput ss i → NamesChannel g i) (λ n. absurd (omega (arith, n.1))) (λ j l n. inputs_named g names (roles_of plan j) nothing []
+      inputs = λ j i. each_plan_code (λ ss. NamesInput ss i → NamesChannel g i) (λ n. absurd (omega (arith, n.1)))
+          (λ j l n. inputs_named g names (roles_of plan j) nothing []
           (code_of plan j) (fits_plan j l) i n) j;
       controls = held.controls;
       loads = each_plan_code (All (LoadsWithin plan)) (All-nil (LoadsWithin plan)) (λ j l.

@@ -103,7 +103,8 @@ record MayHold (g : Graph) (n : ℕ) (x : Step) : Type 0 where
   reads : ReadsWithin g x
 
 -- the rate of signal s is that of its node
-rate_by : (g : Graph) → IsGraph g → (s : ℕ) → s < length g.signals → (n : Signal) → node g s ≡ n → rate_in (rate_of g) n ≡ rate.Sample → rate_of g s ≡ rate.Sample
+rate_by : (g : Graph) → IsGraph g → (s : ℕ) → s < length g.signals → (n : Signal) → node g s ≡ n → rate_in (rate_of g) n ≡ rate.Sample →
+    rate_of g s ≡ rate.Sample
 rate_by g graph s l n e r = rate_is g graph.ordered s (signal.Const (pos 0)) l ∙ ap (rate_in (rate_of g)) e ∙ r
 
 pub steady_node : (g : Graph) → IsGraph g → (s : ℕ) → s < length g.signals → (n : Signal) → node g s ≡ n → rate_of g s ≢ rate.Sample → IsSteady n

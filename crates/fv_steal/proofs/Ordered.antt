@@ -182,7 +182,8 @@ module _ {C : Type 0} (g : Tasks) where
         ∙ ones (λ t. times t (map (number_in g) lines)) 0 (task_count g) (λ t l. once t (omega arith))
 
     -- a line of a task starts after those of the tasks that it reads
-    after : (reads : (t : ℕ) → t < task_count g → ReadsLaw g t) → (a b : Line) → IsFound ws a → IsFound ws b → reads_task g b.task a.task ≡ true → a.finish < b.start
+    after : (reads : (t : ℕ) → t < task_count g → ReadsLaw g t) → (a b : Line) → IsFound ws a → IsFound ws b → reads_task g b.task a.task ≡ true →
+        a.finish < b.start
     after reads a b fa fb r =
         let t = number_in g b in let s = number_in g a in let tl = number_low g b.task fb.there in let sl = number_low g a.task fa.there in
         let law = (reads t tl).reads s sl in

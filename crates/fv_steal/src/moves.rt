@@ -123,8 +123,8 @@ pub(crate) fn arrive_at<C: Parcel>(
     ensures numbers { (view_of seat.new).numbers ≡ (view_of seat.old).numbers }
     ensures put { PutAsZeroed (net_of tasks.now.tasks) (view_of seat.new) (account_of deque.new).put }
     ensures between { PutBetween (net_of tasks.now.tasks) (view_of seat.old) (view_of seat.new) (account_of deque.old).put (account_of deque.new).put }
-    ensures deque { (lies_at deque.new ≡ lies_at deque.old) × (room_of deque.new ≡ room_of deque.old) × ((account_of deque.new).lent ≡ (account_of deque.old).lent)
-        × ((account_of deque.new).taken ≡ (account_of deque.old).taken) }
+    ensures deque { (lies_at deque.new ≡ lies_at deque.old) × (room_of deque.new ≡ room_of deque.old)
+        × ((account_of deque.new).lent ≡ (account_of deque.old).lent) × ((account_of deque.new).taken ≡ (account_of deque.old).taken) }
 {
     let reader = tasks.reader(edge);
     let count = board.arrive(seat, edge);
@@ -156,8 +156,8 @@ pub(crate) fn arrive_all<C: Parcel>(
     ensures arrived { HasArrived (feeds_of tasks.now.tasks t) (view_of seat.old) (view_of seat.new) }
     ensures numbers { (view_of seat.new).numbers ≡ (view_of seat.old).numbers }
     ensures between { PutBetween (net_of tasks.now.tasks) (view_of seat.old) (view_of seat.new) (account_of deque.old).put (account_of deque.new).put }
-    ensures deque { (lies_at deque.new ≡ lies_at deque.old) × (room_of deque.new ≡ room_of deque.old) × ((account_of deque.new).lent ≡ (account_of deque.old).lent)
-        × ((account_of deque.new).taken ≡ (account_of deque.old).taken) }
+    ensures deque { (lies_at deque.new ≡ lies_at deque.old) × (room_of deque.new ≡ room_of deque.old)
+        × ((account_of deque.new).lent ≡ (account_of deque.old).lent) × ((account_of deque.new).taken ≡ (account_of deque.old).taken) }
 {
     let edges = tasks.feeds(t);
     for i in 0..edges.len() {

@@ -23,8 +23,8 @@ use Rattle.fv_top_files.specs.headline.Output.{coding_of, format_of, cut_in}
 use Rattle.fv_top_files.specs.headline.Loading.{HasScript, HasInput}
 use Rattle.fv_top.specs.headline.Steps.{Ends, Rules}
 use Rattle.fv_top.specs.inner.Steps.{IsJudge}
-use Rattle.fv_top.specs.headline.Promise.{Asks, HasProgram, HasProgramOf, HasNoProgram, Plays, IsWhole, Step, ReadProgram, ReadScript, ReadHead, Fit, Write, Tell}
-use Rattle.fv_top.specs.headline.Promise.{StepPasses, StepRefuses, rules_of, steps_of, IsKnown, CanDo}
+use Rattle.fv_top.specs.headline.Promise.{Asks, HasProgram, HasProgramOf, HasNoProgram, Plays, IsWhole, Step, ReadProgram, ReadScript}
+use Rattle.fv_top.specs.headline.Promise.{ReadHead, Fit, Write, Tell, StepPasses, StepRefuses, rules_of, steps_of, IsKnown, CanDo}
 use Rattle.fv_top.specs.headline.Promise.{HasCause, bad_words, of_job, HasDone, IsComplete, IsStrict, IsExact, IsRefusedOrNoMemory}
 use Rattle.fv_top.proofs.StepLaws.{exactly, completes, passes_apart}
 
@@ -90,7 +90,8 @@ one_cut run files once p q =
 
 -- ---- the steps of a run judge
 
-once_in : (run : Run) (files : List File) → IsOneFile → (s : Step) (a b : Refusal) → StepRefuses (Playing run) files s a → StepRefuses (Playing run) files s b → a ≡ b
+once_in : (run : Run) (files : List File) → IsOneFile → (s : Step) (a b : Refusal) → StepRefuses (Playing run) files s a →
+    StepRefuses (Playing run) files s b → a ≡ b
 once_in run files once ReadProgram a b h k = one_text (FileIs run.manner.program) (once run.manner.program) run.program files a b h k
 once_in run files once ReadScript a b h k =
     let e = one_script (ap (λ (c : Compiled). c.controls) (program_of run files once h.0 k.0)) h.1 k.1 in cc
@@ -109,7 +110,8 @@ apart_in run files once Write a p h = let e = sym p.1 ∙ one_cut run files once
 apart_in run files once Tell a p h = h
 
 -- and so do those of a check
-check_once : (name : List ℕ) (files : List File) → IsOneText → (s : Step) (a b : Refusal) → StepRefuses (Checking name) files s a → StepRefuses (Checking name) files s b → a ≡ b
+check_once : (name : List ℕ) (files : List File) → IsOneText → (s : Step) (a b : Refusal) → StepRefuses (Checking name) files s a →
+    StepRefuses (Checking name) files s b → a ≡ b
 check_once name files once ReadProgram a b h k = one_text TextIs once name files a b h k
 check_once name files once ReadScript a b h k = absurd h
 check_once name files once ReadHead a b h k = absurd h
@@ -117,7 +119,8 @@ check_once name files once Fit a b h k = absurd h
 check_once name files once Write a b h k = absurd h
 check_once name files once Tell a b h k = absurd h
 
-check_apart : (name : List ℕ) (files : List File) → IsOneText → (s : Step) (a : Refusal) → StepPasses (Checking name) files s → StepRefuses (Checking name) files s a → ⊥
+check_apart : (name : List ℕ) (files : List File) → IsOneText → (s : Step) (a : Refusal) → StepPasses (Checking name) files s →
+    StepRefuses (Checking name) files s a → ⊥
 check_apart name files once ReadProgram a p h = program_apart TextIs once name files a p h
 check_apart name files once ReadScript a p h = h
 check_apart name files once ReadHead a p h = h

@@ -118,7 +118,8 @@ module _ {words : List (List ℕ)} {run : Run} {m : Compiled} {p : Prepared} {a 
 
   -- all steps before it passed
   behind : (d : DeskState) (e : Refusal) (asked : List Request) → Ends (rules_of (Playing run) a) a d (Write ∷ Tell ∷ []) e asked →
-      Ends (rules_of (Playing run) a) a d (steps_of (Playing run)) e (to_read Program run.program ∷ (reading Controls run.controls ++ (reading Input run.input ++ asked)))
+      Ends (rules_of (Playing run) a) a d (steps_of (Playing run)) e
+      (to_read Program run.program ∷ (reading Controls run.controls ++ (reading Input run.input ++ asked)))
   behind d e asked h =
       later (λ t. (plays_by t).of)
       (later (λ t. let q = plays_by t in (q.of, q.changes, q.under))

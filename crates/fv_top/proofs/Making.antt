@@ -59,7 +59,8 @@ make_stops voices frames workers a e m = record {
   goes_on = goes_on_self a;
   others = record { left = λ t r none. refl; written = λ t r n m. refl; begins = λ r n. refl };
   requests = sym (append-nil a.requests);
-  ends = subst (λ (r : Refusal). Ends (rules_of (Making voices frames workers) a) a a (steps_of (Making voices frames workers)) r []) (sym m) (here (want_of_memory tt));
+  ends = subst (λ (r : Refusal). Ends (rules_of (Making voices frames workers) a) a a (steps_of (Making voices frames workers)) r []) (sym m)
+      (here (want_of_memory tt));
   output = record { begins = refl; written = λ t. refl };
   begun = [];
   appended = λ t. sym (append-nil (a.written Report));

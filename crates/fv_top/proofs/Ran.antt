@@ -69,7 +69,8 @@ makes_fit workers frames one few =
 
 -- ---- the blocks of a make
 
-pub make_ran : {voices frames workers blocks loops runs : ℕ} {old : DeskState} {before after : Option Told} → MakeRan voices frames workers blocks loops runs before after
+pub make_ran : {voices frames workers blocks loops runs : ℕ} {old : DeskState} {before after : Option Told} →
+    MakeRan voices frames workers blocks loops runs before after
     → (x : HaveRan (Making voices frames workers) old frames (record { blocks = blocks; loops = loops; loop_runs = runs }) before after)
     × (x.played.sizes.frames ≡ frames)
 make_ran {voices} {frames} {workers} m = (

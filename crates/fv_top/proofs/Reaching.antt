@@ -64,7 +64,8 @@ loading_halts run s role name P {a = a} {c = c} m p takes answers refuses (inl h
     let w = answers sure in
     h.1.unsure (told_before on t) (unfailing_later role on t w.0, subst (IsThere name) (sym (on.files t)) w.1)))
 loading_halts run s role name P {e = e} m p takes answers refuses (inr (inl h)) = judged h.0 (λ t. refuses t e (h.1 (told_before p.quiet.goes_on t)))
-loading_halts run s role name P {a = a} {c = c} w p takes answers refuses (inr (inr m)) = subst (Halts (rules_of (Playing run) a) a c s) (sym m) (want_of_memory w)
+loading_halts run s role name P {a = a} {c = c} w p takes answers refuses (inr (inr m)) =
+    subst (Halts (rules_of (Playing run) a) a c s) (sym m) (want_of_memory w)
 
 -- a fault is no refusal of a program's file
 pub no_kind : (kind : ProgramKind) (role : Role) → IsOfKind kind (ReadFault role) → ⊥

@@ -5,7 +5,8 @@ use Rattle.fv_outside.specs.headline.Requests.{Request}
 use Rattle.fv_outside.specs.headline.Desk.{DeskState, HasFault}
 use Rattle.fv_top_report.specs.declared.refusal.Refusal.{Refusal}
 use Rattle.fv_top_report.specs.declared.refusal.Refusal.TheVariants.{NoMemory}
-use Rattle.fv_top.specs.headline.Steps.{Rules, Turn, role_of, fault_of, Halts, fault, judged, want_of_memory, Ends, here, later, IsQuiet, Stops, at, behind, PassesAll, more}
+use Rattle.fv_top.specs.headline.Steps.{Rules, Turn, role_of, fault_of, Halts, fault, judged, want_of_memory}
+use Rattle.fv_top.specs.headline.Steps.{Ends, here, later, IsQuiet, Stops, at, behind, PassesAll, more}
 use Rattle.fv_top.specs.inner.Steps.{IsJudge}
 
 module _ {S : Type 0} (k : Rules S) (old new : DeskState) (judge : IsJudge k) where

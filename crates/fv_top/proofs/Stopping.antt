@@ -97,7 +97,8 @@ no_program Rack coding.Wave place is = absurd cc
 no_program Rack coding.Au place is = absurd cc
 
 -- before anything is written, of its steps only that of the head judges it so
-head_judged : (run : Run) (a : DeskState) (c : Coding) (place : ℕ) → IsTrue a.tells → OfSome (Judges (rules_of (Playing run) a) (truncated c place)) steps_before
+head_judged : (run : Run) (a : DeskState) (c : Coding) (place : ℕ) → IsTrue a.tells →
+    OfSome (Judges (rules_of (Playing run) a) (truncated c place)) steps_before
     → HasInput run.manner.input run.input a.files (Err (truncated c place))
 head_judged run a coding.Wave place t (inl h) = absurd (no_program run.manner.program coding.Wave place h.0)
 head_judged run a coding.Wave place t (inr (inl h)) = let no = h.0 in absurd cc
@@ -117,7 +118,8 @@ head_cut run a b e c place asked is t h =
     subst (λ (r : Refusal). HasInput run.manner.input run.input a.files (Err r)) (sym is) head
 
 -- a check reads no input
-check_judged : (name : List ℕ) (a : DeskState) (c : Coding) (place : ℕ) → OfSome (Judges (rules_of (Checking name) a) (truncated c place)) (steps_of (Checking name)) → ⊥
+check_judged : (name : List ℕ) (a : DeskState) (c : Coding) (place : ℕ) →
+    OfSome (Judges (rules_of (Checking name) a) (truncated c place)) (steps_of (Checking name)) → ⊥
 check_judged name a coding.Wave place (inl h) = let no = h.0 in absurd cc
 check_judged name a coding.Wave place (inr (inl h)) = let no = h.0 in absurd cc
 check_judged name a coding.Wave place (inr (inr h)) = h
@@ -212,7 +214,8 @@ stopped_make {words} {voices} {frames} {workers} {a} {b} {e} asks s = record {
   others = others_for words asks s.others;
   cause = record { asked = []; requests = s.requests; cause = of_job (Making voices frames workers) asks s.ends };
   output = inl s.output;
-  cut = λ c place is t. absurd (make_judged voices frames workers a c place (judged_cut (rules_of (Making voices frames workers) a) a b (steps_of (Making voices frames workers)) e c place _ is s.ends));
+  cut = λ c place is t. absurd (make_judged voices frames workers a c place
+      (judged_cut (rules_of (Making voices frames workers) a) a b (steps_of (Making voices frames workers)) e c place _ is s.ends));
   begun = s.begun;
   appended = s.appended;
   is_begun = ⊎_elim inl (λ h. inr (h.0, (Making voices frames workers, asks, h.1))) s.is_begun;

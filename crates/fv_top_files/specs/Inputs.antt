@@ -1,4 +1,5 @@
--- What calls say beside `headline/Inputs`: inputs of either kind: what their heads say, and the samples behind them (RIFF WAVE 1991; Sun audio; this project's profile).
+-- What calls say beside `headline/Inputs`: inputs of either kind: what their heads say, and the samples behind them (RIFF WAVE 1991; Sun
+-- audio; this project's profile).
 use Rattle.std.specs.Prelude.{◌≡◌, ◌^◌, ◌<◌, ◌≤◌, true}
 use Rattle.fv_diagram.specs.Limits.TheConstants.{MOST_CHANNELS}
 use Rattle.fv_diagram.specs.Words.{is_sample_width}

@@ -1,6 +1,6 @@
--- What calls say beside `headline/Program`: what a program's text is: a program, or refused for its first fault (Faust manual, cut down by this project's profile).
-use Rattle.std.specs.Prelude.{◌≡◌, ℕ, ◌+◌, IsTrue, List}
-use Rattle.std.specs.Prelude.{take, Result, Ok, Err}
+-- What calls say beside `headline/Program`: what a program's text is: a program, or refused for its first fault (Faust manual, cut down by
+-- this project's profile).
+use Rattle.std.specs.Prelude.{◌≡◌, ℕ, ◌+◌, IsTrue, List, take, Result, Ok, Err}
 use Rattle.fv_base.specs.declared.limits.TheConstants.{LONGEST_TEXT}
 use Rattle.fv_top_text.specs.Answers.{IsOnce, IsSome, RefusesOthers}
 use Rattle.fv_top_report.specs.headline.Lines.{row_of}

@@ -1,6 +1,6 @@
 -- What the tree evaluates to, and how many visits that takes.
-use Rattle.std.proofs.Common.{◌≡◌, ℕ, zero, suc, ◌+◌, ◌-◌, ◌*◌, ◌≤◌, true, false, ◌||◌, if◌then◌else◌, List, [], ◌∷◌, ◌++◌, codes, ℤ, pos, ◌+ℤ◌, ◌*ℤ◌, Some, None}
-use Rattle.std.proofs.Common.{Ok, refl, ap, ap₂, ◌∙◌, sym, arith, le-leb, append_assoc, append-nil}
+use Rattle.std.proofs.Common.{◌≡◌, ℕ, zero, suc, ◌+◌, ◌-◌, ◌*◌, ◌≤◌, true, false, ◌||◌, if◌then◌else◌, List, [], ◌∷◌, ◌++◌, codes, ℤ}
+use Rattle.std.proofs.Common.{pos, ◌+ℤ◌, ◌*ℤ◌, Some, None, Ok, refl, ap, ap₂, ◌∙◌, sym, arith, le-leb, append_assoc, append-nil}
 use Rattle.std.proofs.Math.Nat.{mod-one}
 use Rattle.fv_lex.specs.headline.Token.{Lexed}
 use Rattle.fv_lex.specs.headline.Pieces.{greatest_literal}
@@ -20,7 +20,8 @@ use Rattle.fv_rules.specs.declared.refusal.TableCause.TheVariants as cause
 use Rattle.fv_rules.specs.Numbers.{number_of}
 use Rattle.fv_rules.specs.headline.Values.{Value, Flat, Env, Outermost, Bound, Scope}
 use Rattle.fv_rules.specs.Values.{LiteralsStay}
-use Rattle.fv_rules.specs.headline.Steps.{State, Eval, after, ◌>>=◌, give, refuse, is_multiple, unless, misfit, before_table, put_as, put, whole as without_primitives}
+use Rattle.fv_rules.specs.headline.Steps.{State, Eval, after, ◌>>=◌, give, refuse, is_multiple, unless}
+use Rattle.fv_rules.specs.headline.Steps.{misfit, before_table, put_as, put, whole as without_primitives}
 use Rattle.fv_rules.specs.headline.Rules.{Evaluator, within, ev, flat, turned, rule, joined, from_right, bodies, gathered, counted, finished, program_value}
 use Rattle.fv_top_voices.specs.Voices.{voice, voices_from}
 use Rattle.fv_top_voices.proofs.Tokens.{lexed}

@@ -62,7 +62,8 @@ between (Some k) h = let most = h.1 in (h.0, omega arith)
 -- ---- one number after another
 
 abbrev after_rate : (block vector workers : ℕ) (bits frames rate : Option ℕ) → Result Settings Cause
-after_rate block vector workers bits frames rate = checked (record { block = block; vector = vector; workers = workers; bits = bits; frames = frames; rate = rate })
+after_rate block vector workers bits frames rate = checked (record
+    { block = block; vector = vector; workers = workers; bits = bits; frames = frames; rate = rate })
 
 abbrev after_frames : Numbers → (block vector workers : ℕ) (bits frames : Option ℕ) → Result Settings Cause
 after_frames n block vector workers bits frames = within 1 (2 ^ 32 - 1) n.rate >>= after_rate block vector workers bits frames

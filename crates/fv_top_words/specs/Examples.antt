@@ -95,7 +95,14 @@ no_input : run (codes "p.dsp" ∷ codes "-" ∷ codes "o.wav" ∷ codes "--frame
 no_input = refl
 
 dashes_behind : run (codes "--" ∷ codes "-p" ∷ codes "in.wav" ∷ codes "--o" ∷ [])
-    ≡ Ok (Playing (record { program = codes "-p"; input = Some (codes "in.wav"); output = codes "--o"; controls = None; settings = plain; manner = wave_files }))
+    ≡ Ok (Playing (record {
+      program = codes "-p";
+      input = Some (codes "in.wav");
+      output = codes "--o";
+      controls = None;
+      settings = plain;
+      manner = wave_files;
+    }))
 dashes_behind = refl
 
 -- ---- causes, in their order

@@ -1,5 +1,6 @@
 -- The values of the controls while their changes come.
-use Rattle.std.proofs.Common.{◌≡◌, ℕ, zero, suc, ◌+◌, ◌<◌, ◌≤◌, List, [], ◌∷◌, ◌++◌, length, take, drop, get_or, ℤ, pos, sym, ◌∙◌, ap, arith, refl, length-set, subst}
+use Rattle.std.proofs.Common.{◌≡◌, ℕ, zero, suc, ◌+◌, ◌<◌, ◌≤◌, List, [], ◌∷◌, ◌++◌, length, take}
+use Rattle.std.proofs.Common.{drop, get_or, ℤ, pos, sym, ◌∙◌, ap, arith, refl, length-set, subst}
 use Rattle.std.specs.Prelude.{slice_set}
 use Rattle.std.specs.List.{AllByRecursion}
 use Rattle.std.proofs.lemmas.List.{take_more}
@@ -27,7 +28,8 @@ all_push : (P : Change → Type 0) (cs : List Change) (c : Change) → AllByRecu
 all_push P [] c h p = (p, tt)
 all_push P (b ∷ cs) c h p = (h.0, all_push P cs c h.1 p)
 
-pub all_more : (P : Change → Type 0) (cs : List Change) (n : ℕ) (d : Change) → n < length cs → AllByRecursion P (take n cs) → P (get_or cs n d) → AllByRecursion P (take (n + 1) cs)
+pub all_more : (P : Change → Type 0) (cs : List Change) (n : ℕ) (d : Change) → n < length cs → AllByRecursion P (take n cs) → P (get_or cs n d) →
+    AllByRecursion P (take (n + 1) cs)
 all_more P cs n d h all p = subst (AllByRecursion P) (sym (take_more cs n d h)) (all_push P (take n cs) (get_or cs n d) all p)
 
 -- what has come by a frame has come by the next one
@@ -42,7 +44,8 @@ never_below least f (c ∷ cs) h n =
     (here, never_below c.frame f cs here n.1)
 
 -- where frames never fall, all changes behind one that has not come have not
-pub all_behind : (least f n : ℕ) (cs : List Change) (c : Change) → NeverFall least cs → (n < length cs → f < (get_or cs n c).frame) → AllByRecursion (λ b. f < b.frame) (drop n cs)
+pub all_behind : (least f n : ℕ) (cs : List Change) (c : Change) → NeverFall least cs → (n < length cs → f < (get_or cs n c).frame) →
+    AllByRecursion (λ b. f < b.frame) (drop n cs)
 all_behind least f zero [] c k h = tt
 all_behind least f zero (b ∷ cs) c k h = let here : f < b.frame = h (omega arith) in (here, never_below b.frame f cs here k.1)
 all_behind least f (suc n) [] c k h = tt
@@ -53,7 +56,8 @@ all_behind least f (suc n) (b ∷ cs) c k h = all_behind b.frame f n cs c k.1 (�
 abbrev pub heard_at : List Change → (initial : List ℤ) → ℕ → Frame
 heard_at changes initial t = table (length initial) (λ k. control_streams changes initial k t)
 
-pub values_are : (changes : List Change) (initial : List ℤ) (n f : ℕ) → Held → AllByRecursion (λ c. c.frame ≤ f) (take n changes) → AllByRecursion (λ c. f < c.frame) (drop n changes) →
+pub values_are : (changes : List Change) (initial : List ℤ) (n f : ℕ) → Held → AllByRecursion (λ c. c.frame ≤ f) (take n changes) →
+    AllByRecursion (λ c. f < c.frame) (drop n changes) →
     applied initial (take n changes) ≡ heard_at changes initial f
 values_are changes initial n f held come behind =
     let values = applied initial (take n changes) in

@@ -1,12 +1,12 @@
 -- How many frames an answer has, how wide they are, and what they depend on.
-use Rattle.std.proofs.Common.{◌≡◌, ℕ, Bool, true, false, ℤ, suc, ◌+◌, ◌-◌, List, [], ◌∷◌, ◌++◌, length, map, reverse, take, drop, refl, sym, ap, ap₂, ◌∙◌}
-use Rattle.std.proofs.Common.{subst, arith, All, pos}
+use Rattle.std.proofs.Common.{◌≡◌, ℕ, Bool, true, false, ℤ, suc, ◌+◌, ◌-◌, List, [], ◌∷◌, ◌++◌, length}
+use Rattle.std.proofs.Common.{map, reverse, take, drop, refl, sym, ap, ap₂, ◌∙◌, subst, arith, All, pos}
 use Rattle.std.proofs.lemmas.List.{get_or_append_left, length-append, length-take-le, length-drop, length-replicate, length-reverse}
 use Rattle.fv_base.proofs.lemmas.Lists.{length_table}
 use Rattle.fv_diagram.specs.declared.node.Primitive.{Primitive as Prim}
 use Rattle.fv_diagram.specs.declared.node.Primitive.TheVariants as prim
-use Rattle.fv_diagram.specs.headline.Diagram.{Diagram, Primitive, Constant, Control, Slot, Wave, Table, Bind, Par, Seq, Split, Merge, Rec, primitive_outputs, inputs}
-use Rattle.fv_diagram.specs.headline.Diagram.{outputs}
+use Rattle.fv_diagram.specs.headline.Diagram.{Diagram, Primitive, Constant, Control, Slot, Wave, Table, Bind}
+use Rattle.fv_diagram.specs.headline.Diagram.{Par, Seq, Split, Merge, Rec, primitive_outputs, inputs, outputs}
 use Rattle.fv_diagram.specs.headline.Streams.{Frame, column, primitive_at, wave_at, table_at, dealt, merged, bound, last, run}
 use Rattle.fv_diagram.specs.Laws.{AnswersEach, AnswersWide, AnswersAlike, AnswersOneMore}
 use Rattle.fv_diagram.proofs.lemmas.Lists.{last_snoc}

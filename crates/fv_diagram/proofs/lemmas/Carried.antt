@@ -1,10 +1,11 @@
 -- Wires that are wired as a diagram carry its answer.
-use Rattle.std.proofs.Common.{◌≡◌, ℕ, zero, suc, ◌%◌, ◌<◌, ◌≤◌, List, [], ◌∷◌, ◌++◌, length, map, reverse, take, drop, get_or, replicate, refl, sym}
-use Rattle.std.proofs.Common.{ap, ap₂, ◌∙◌, arith, pos, true, false, if◌then◌else◌, nat_eq}
+use Rattle.std.proofs.Common.{◌≡◌, ℕ, zero, suc, ◌%◌, ◌<◌, ◌≤◌, List, [], ◌∷◌, ◌++◌, length, map, reverse, take, drop}
+use Rattle.std.proofs.Common.{get_or, replicate, refl, sym, ap, ap₂, ◌∙◌, arith, pos, true, false, if◌then◌else◌, nat_eq}
 use Rattle.std.proofs.lemmas.List.{map_push, map-append, length-map, take-map, drop-map, get_or-map}
 use Rattle.std.proofs.Math.Nat.{mod-lt}
 use Rattle.fv_diagram.specs.headline.Diagram.{Diagram, Primitive, Constant, Control, Slot, Wave, Table, Bind, Par, Seq, Split, Merge, Rec, inputs}
-use Rattle.fv_diagram.specs.headline.Streams.{Frame, Stream, column, table, primitive_at, wave_at, table_at, beside, dealt, merged, bound, last, fed_back, feedback, run}
+use Rattle.fv_diagram.specs.headline.Streams.{Frame, Stream, column, table, primitive_at, wave_at, table_at}
+use Rattle.fv_diagram.specs.headline.Streams.{beside, dealt, merged, bound, last, fed_back, feedback, run}
 use Rattle.fv_num.specs.headline.Frames.{carried}
 use Rattle.fv_num.specs.Frames.{carries}
 use Rattle.fv_diagram.specs.Wires.{plugged, Wired, SlotsCarry}

@@ -1,17 +1,16 @@
 -- The answer on more frames begins with the answer on fewer.
-use Rattle.std.proofs.Common.{◌≡◌, ℕ, zero, suc, ◌-◌, ◌<◌, ◌≤◌, List, [], ◌∷◌, ◌++◌, length, map, reverse, take, drop, get_or, replicate, refl, sym, ap, ap₂}
-use Rattle.std.proofs.Common.{◌∙◌, arith, append_assoc, append-nil, inl, inr, ℤ, pos, negsuc, Bool, true, false, if◌then◌else◌, nat_eq, nat_le}
-use Rattle.std.proofs.lemmas.List.{reverse-append, reverse-reverse, get_or_append_left, map_push, length-append, length-map, length-reverse, take-append-le}
-use Rattle.std.proofs.lemmas.List.{take_all, take_at, nil_from_length, length-take-le}
+use Rattle.std.proofs.Common.{◌≡◌, ℕ, zero, suc, ◌-◌, ◌<◌, ◌≤◌, List, [], ◌∷◌, ◌++◌, length, map, reverse, take, drop, get_or, replicate, refl, sym, ap}
+use Rattle.std.proofs.Common.{ap₂, ◌∙◌, arith, append_assoc, append-nil, inl, inr, ℤ, pos, negsuc, Bool, true, false, if◌then◌else◌, nat_eq, nat_le}
+use Rattle.std.proofs.lemmas.List.{reverse-append, reverse-reverse, get_or_append_left, map_push, length-append, length-map}
+use Rattle.std.proofs.lemmas.List.{length-reverse, take-append-le, take_all, take_at, nil_from_length, length-take-le}
 use Rattle.std.proofs.lemmas.Bool.{eqb-false}
 use Rattle.fv_num.specs.headline.Words.{apply_of}
 use Rattle.fv_diagram.specs.declared.node.Primitive.{Primitive as Prim}
 use Rattle.fv_diagram.specs.declared.node.Primitive.TheVariants.{Wire, Cut, Mem, Prefix, Delay, Int, Attach, Point, ReadTable, WriteTable}
 use Rattle.fv_diagram.specs.headline.Diagram.{Diagram, Primitive, Constant, Control, Slot, Wave, Table, Bind, Par, Seq, Split, Merge, Rec, inputs}
-use Rattle.fv_diagram.specs.Diagram.{control_bound}
-use Rattle.fv_diagram.specs.Diagram.{IsFree, HasNoFreeSlot}
-use Rattle.fv_diagram.specs.headline.Streams.{Frame, Stream, frame_at, column, table, delayed, prefixed, back, primitive_at, wave_at, table_at, beside, dealt, merged}
-use Rattle.fv_diagram.specs.headline.Streams.{bound, last, fed_back, feedback, run}
+use Rattle.fv_diagram.specs.Diagram.{control_bound, IsFree, HasNoFreeSlot}
+use Rattle.fv_diagram.specs.headline.Streams.{Frame, Stream, frame_at, column, table, delayed, prefixed, back, primitive_at}
+use Rattle.fv_diagram.specs.headline.Streams.{wave_at, table_at, beside, dealt, merged, bound, last, fed_back, feedback, run}
 use Rattle.fv_diagram.specs.Laws.{AnswersPrefixes, AnswersItself, fed_back_over}
 use Rattle.fv_num.specs.headline.Tables.{place, read_at, written_at}
 use Rattle.fv_num.proofs.lemmas.Tables.{last_written_same}

@@ -1,5 +1,6 @@
 -- Two users of the walk, whose wires and signals stay related.
-use Rattle.std.proofs.Common.{◌≡◌, ℕ, zero, suc, ◌%◌, List, [], ◌∷◌, ◌++◌, length, take, drop, get_or, refl, ap, subst, nat_eq, true, false, if◌then◌else◌, Bool, ℤ, pos}
+use Rattle.std.proofs.Common.{◌≡◌, ℕ, zero, suc, ◌%◌, List, [], ◌∷◌, ◌++◌, length, take, drop, get_or}
+use Rattle.std.proofs.Common.{refl, ap, subst, nat_eq, true, false, if◌then◌else◌, Bool, ℤ, pos}
 use Rattle.std.specs.Prelude.{slice_set}
 use Rattle.fv_base.specs.headline.Lists.{table}
 use Rattle.fv_num.specs.declared.op.Op.TheVariants.{Add}

@@ -1,6 +1,6 @@
 -- The trees of an arena.
-use Rattle.std.proofs.Common.{◌≡◌, ℕ, zero, suc, ◌+◌, ◌*◌, ◌<◌, ◌≤◌, List, [], ◌∷◌, ◌++◌, length, get_or, refl, sym, ap, ap₂, ◌∙◌, subst, arith, ℤ, pos, inl, inr}
-use Rattle.std.proofs.Common.{All, true, false, Bool}
+use Rattle.std.proofs.Common.{◌≡◌, ℕ, zero, suc, ◌+◌, ◌*◌, ◌<◌, ◌≤◌, List, [], ◌∷◌, ◌++◌, length, get_or}
+use Rattle.std.proofs.Common.{refl, sym, ap, ap₂, ◌∙◌, subst, arith, ℤ, pos, inl, inr, All, true, false, Bool}
 use Rattle.std.proofs.lemmas.List.Elements.{All-head, All-tail, All-push, All-weaker}
 use Rattle.std.proofs.lemmas.Bool.{cases_lt}
 use Rattle.std.proofs.lemmas.List.{get_or_append_left, get_or_push, get_or-map, length-map, map_push}
@@ -15,8 +15,8 @@ use Rattle.fv_num.specs.declared.op.Op.TheVariants as op
 use Rattle.fv_num.specs.headline.Words.{inputs_of}
 use Rattle.fv_diagram.specs.declared.node.Primitive.{Primitive as Prim}
 use Rattle.fv_diagram.specs.declared.node.Primitive.TheVariants as prim
-use Rattle.fv_diagram.specs.headline.Diagram.{Diagram, Primitive, Constant, Control, Slot, Wave, Table, Bind, Par, Seq, Split, Merge, Rec}
-use Rattle.fv_diagram.specs.headline.Diagram.{primitive_inputs, primitive_outputs, table_inputs, inputs, outputs, size}
+use Rattle.fv_diagram.specs.headline.Diagram.{Diagram, Primitive, Constant, Control, Slot, Wave, Table, Bind, Par, Seq, Split, Merge}
+use Rattle.fv_diagram.specs.headline.Diagram.{Rec, primitive_inputs, primitive_outputs, table_inputs, inputs, outputs, size}
 use Rattle.fv_diagram.specs.Diagram.{HasNumbers, AreNumbers}
 use Rattle.fv_diagram.specs.Arena.{subtree, tree_in, trees, tree_of, tree_with, Arena, count_of, with_node, ChildrenBelow, IsEntry}
 use Rattle.fv_diagram.specs.inner.Arena.{HasNumber}
@@ -181,7 +181,8 @@ list_known a es lists t v h l =
 -- the numbers of a node over the trees of the entries
 numbers_at : (es : List Entry) (lists : List (List ℤ)) (i : ℕ) → AreEntries es lists → i < length (nodes es) → HasNumbers (subtree (trees lists (nodes es)) i)
 numbers_at es lists i h l =
-    (h.each i record { node = node.Slot 0; arity = record { inputs = 0; outputs = 0 }; size = 0; primitives = false } (omega (arith, length-map es (λ e. e.node)))).numbers
+    (h.each i record { node = node.Slot 0; arity = record { inputs = 0; outputs = 0 }; size = 0; primitives = false }
+    (omega (arith, length-map es (λ e. e.node)))).numbers
 
 numbers_over : (es : List Entry) (lists : List (List ℤ)) (n : Node) → AreEntries es lists → ChildrenBelow (length (nodes es)) n
     → NamesLists (length lists) n → HasNumber n → HasNumbers (tree_in lists (trees lists (nodes es)) n)

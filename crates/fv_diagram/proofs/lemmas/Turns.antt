@@ -1,13 +1,14 @@
 -- What a turn of the walk does.
-use Rattle.std.proofs.Common.{◌≡◌, ℕ, ◌+◌, ◌-◌, ◌%◌, ◌<◌, ◌≤◌, List, [], ◌∷◌, ◌++◌, zero, suc, Bool, true, false, if◌then◌else◌, nat_eq, length, take}
-use Rattle.std.proofs.Common.{drop, get_or, refl, sym, ap, ◌∙◌, subst, arith, All, Global, inl, inr, length-append}
+use Rattle.std.proofs.Common.{◌≡◌, ℕ, ◌+◌, ◌-◌, ◌%◌, ◌<◌, ◌≤◌, List, [], ◌∷◌, ◌++◌, zero, suc, Bool, true, false, if◌then◌else◌, nat_eq}
+use Rattle.std.proofs.Common.{length, take, drop, get_or, refl, sym, ap, ◌∙◌, subst, arith, All, Global, inl, inr, length-append}
 use Rattle.std.specs.declared.collections.VecDeque.{VecDeque}
 use Rattle.std.proofs.lemmas.List.Elements.{All-weaker, All-cons, All-head, All-tail, All-nil, All-take, All-drop, All-append}
 use Rattle.std.proofs.lemmas.List.{length-take-le, length-drop}
 use Rattle.std.proofs.lemmas.Bool.{cases_lt}
 use Rattle.std.proofs.Math.Nat.{mod-eq_of_lt}
 use Rattle.fv_base.proofs.lemmas.Lists.{length_table}
-use Rattle.fv_diagram.specs.headline.Diagram.{Diagram, Primitive, Constant, Control, Slot, Wave, Table, Bind, Par, Seq, Split, Merge, Rec, inputs, outputs, size}
+use Rattle.fv_diagram.specs.headline.Diagram.{Diagram, Primitive, Constant, Control, Slot, Wave, Table}
+use Rattle.fv_diagram.specs.headline.Diagram.{Bind, Par, Seq, Split, Merge, Rec, inputs, outputs, size}
 use Rattle.fv_diagram.specs.Diagram.{IsWellFormed}
 use Rattle.fv_diagram.specs.headline.Streams.{dealt}
 use Rattle.fv_diagram.specs.Arena.{count_of, tree_of}

@@ -36,7 +36,8 @@ pub record Leaves (old new : Pack) (before after : List ℤ) : Type 0 where
   pub lists_are : new.lists.ghost_name ≡ old.lists.ghost_name
   pub kept_is : new.kept.ghost_name ≡ old.kept.ghost_name
   pub ran : new.ran ≡ true → Ran (tasks_of (block_with old)) (block_in (block_with old)) (lengths_by (shapes_with old)) (shapes_with old)
-      (opening_of (block_with old) old.states.now before old.lists.now.items) after new.states.now new.lists.now.items new.lines.now.items (block_with old).plan.now.outputs new.output.now
+      (opening_of (block_with old) old.states.now before old.lists.now.items) after new.states.now new.lists.now.items new.lines.now.items
+      (block_with old).plan.now.outputs new.output.now
   pub who : new.ran ≡ true → All (λ (line : Line). line.worker < (block_with old).workers) new.lines.now.items
   pub left : new.ran ≡ false → HoldAsBefore (shapes_with old) old.states.now before new.states.now after
   pub lists_left : new.ran ≡ false → lists_of new.lists.now.items ≡ lists_of old.lists.now.items

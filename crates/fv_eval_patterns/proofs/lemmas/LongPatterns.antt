@@ -1,9 +1,10 @@
 -- Long patterns that are tried without binding anything.
-use Rattle.std.proofs.Common.{◌≡◌, ◌⊎◌, inl, inr, ◌+◌, ℕ, ℤ, zero, suc, ◌<◌, ◌≤◌, arith, Bool, true, false, List, [], ◌∷◌, ◌++◌, map, reverse, take, drop, length, set, get_or, Option, Some, None}
-use Rattle.std.proofs.Common.{refl, sym, ap, subst, ◌∙◌}
+use Rattle.std.proofs.Common.{◌≡◌, ◌⊎◌, inl, inr, ◌+◌, ℕ, ℤ, zero, suc, ◌<◌, ◌≤◌, arith, Bool, true, false, List, [], ◌∷◌, ◌++◌}
+use Rattle.std.proofs.Common.{map, reverse, take, drop, length, set, get_or, Option, Some, None, refl, sym, ap, subst, ◌∙◌}
 use Rattle.std.specs.Prelude.{IfSome, slice_get, option_to_list}
 use Rattle.std.specs.Bool.{MatchBool}
-use Rattle.std.proofs.lemmas.List.{reverse-append, drop-append-le, take-append-le, take_all, length-append, length-drop, length-set, get_or-set_same, get_or-set_other, get_or_append_left, get_or_push}
+use Rattle.std.proofs.lemmas.List.{reverse-append, drop-append-le, take-append-le, take_all, length-append, length-drop}
+use Rattle.std.proofs.lemmas.List.{length-set, get_or-set_same, get_or-set_other, get_or_append_left, get_or_push}
 use Rattle.std.proofs.Math.Seq.{drop-append_seam}
 use Rattle.std.proofs.lemmas.List.Sums.{sum_by_push}
 use Rattle.std.proofs.lemmas.Option.{none-some, same_Some, slice_get_within, slice_get_read, get_or_from_slice_get}
@@ -42,7 +43,8 @@ nothing_then None f h = refl
 nothing_then (Some x) f h = h x
 
 -- a pair that is refused does not match
-refused_alone : (p : Parsed) (a : Arena) (x : Pair) → Refuses p a x → (bs : Bindings) → matched p.tokens (tree_in p x.pattern) (Flat (tree_of a x.diagram)) bs ≡ None
+refused_alone : (p : Parsed) (a : Arena) (x : Pair) → Refuses p a x → (bs : Bindings) →
+    matched p.tokens (tree_in p x.pattern) (Flat (tree_of a x.diagram)) bs ≡ None
 refused_alone p a x h bs = sym (and_then_some (matched p.tokens (tree_in p x.pattern) (Flat (tree_of a x.diagram)) bs)) ∙ h [] bs
 
 -- ---- what is remembered stays true

@@ -1,4 +1,5 @@
--- What no call says beside `headline/Tapes`: what was heard of an input and said to an output, and how that stops (RIFF WAVE 1991; Sun audio; this project's profile).
+-- What no call says beside `headline/Tapes`: what was heard of an input and said to an output, and how that stops (RIFF WAVE 1991; Sun
+-- audio; this project's profile).
 use Rattle.std.specs.Prelude.{◌≡◌, ◌⊎◌, ℕ, ◌+◌, ◌<◌, IsTrue, [], length}
 use Rattle.fv_base.specs.declared.role.Role.TheVariants.{Input}
 use Rattle.fv_outside.specs.headline.Desk.{DeskState, KeepsFaults}

@@ -237,7 +237,8 @@ module _ (I : List Interval) (X : List Frame) (w : All (AreOf I) X) where
     | false ↦ right_of (span_at I 0) (point (pos 0)) (pos 0) (at 0 t l m).0 zero_of
   ]
 
-  primitive_of : (p : Prim) → is_table_primitive p ≡ false → length I ≡ primitive_inputs p → (t : ℕ) → t < length X → AreOf (primitive_spans p I) (primitive_at p X t)
+  primitive_of : (p : Prim) → is_table_primitive p ≡ false → length I ≡ primitive_inputs p → (t : ℕ) → t < length X →
+      AreOf (primitive_spans p I) (primitive_at p X t)
   primitive_of prim.Wire q e t m = (at 0 t (omega arith) m, tt)
   primitive_of prim.Int q e t m = (at 0 t (omega arith) m, tt)
   primitive_of prim.Attach q e t m = (at 0 t (omega arith) m, tt)

@@ -1,6 +1,6 @@
 -- What the step finds is a piece, and what it refuses is a fault.
-use Rattle.std.proofs.Common.{◌≡◌, ℕ, zero, suc, ◌+◌, ◌<◌, ◌≤◌, Bool, true, false, cond, not, ◌&&◌, ◌||◌, List, [], ◌∷◌, ◌++◌, length, take, drop, Option, Some}
-use Rattle.std.proofs.Common.{None, refl, sym, ap, subst, ◌∙◌, arith, ◌⊎◌, inl, inr}
+use Rattle.std.proofs.Common.{◌≡◌, ℕ, zero, suc, ◌+◌, ◌<◌, ◌≤◌, Bool, true, false, cond, not, ◌&&◌, ◌||◌, List, [], ◌∷◌}
+use Rattle.std.proofs.Common.{◌++◌, length, take, drop, Option, Some, None, refl, sym, ap, subst, ◌∙◌, arith, ◌⊎◌, inl, inr}
 use Rattle.std.specs.Prelude.{nat_eq, nat_lt, is_some}
 use Rattle.std.specs.List.{list_all, prefix_len}
 use Rattle.std.specs.Option.{option_map}
@@ -13,12 +13,13 @@ use Rattle.fv_lex.specs.declared.next.Next.{Next}
 use Rattle.fv_lex.specs.declared.next.Next.TheVariants.{End, Found, Refused}
 use Rattle.fv_lex.specs.headline.Bytes.{is_blank, is_letter, is_digit, is_underscore, is_name_byte, is_quote, is_in_line, begins}
 use Rattle.fv_lex.specs.headline.Symbols.{at_byte, singles, double, value}
-use Rattle.fv_lex.specs.headline.Pieces.{is_name, is_integer, closes, is_token, IsLongest, BeginsNoToken, is_real_tail, BeginsReal, fraction, real, begins_comment}
-use Rattle.fv_lex.specs.headline.Pieces.{ends_line, has_close, greatest_literal, IsPiece, blank_byte, line_comment, block_comment, longest_token, IsFault, unclosed_text}
-use Rattle.fv_lex.specs.headline.Pieces.{unclosed_comment, real_literal, large_literal, bad_byte}
+use Rattle.fv_lex.specs.headline.Pieces.{is_name, is_integer, closes, is_token, IsLongest, BeginsNoToken, is_real_tail, BeginsReal, fraction, real}
+use Rattle.fv_lex.specs.headline.Pieces.{begins_comment, ends_line, has_close, greatest_literal, IsPiece, blank_byte, line_comment, block_comment}
+use Rattle.fv_lex.specs.headline.Pieces.{longest_token, IsFault, unclosed_text, unclosed_comment, real_literal, large_literal, bad_byte}
 use Rattle.fv_lex.specs.inner.Steps.{to_quote, to_close, bare_underscores, found_or, number_next, slash_next, sign_next, first_next, next_piece}
 use Rattle.fv_lex.proofs.lemmas.Runs.{Stops, prefix_len-cons, prefix_len-passes, list_all-prefix_len, run_stops, run_is, run_short, list_all_stops}
-use Rattle.fv_lex.proofs.lemmas.Classes.{digit_range, letter_range, no_letter, no_digit, no_double, no_double_high, no_name, no_integer, no_text, no_sign, name_stops}
+use Rattle.fv_lex.proofs.lemmas.Classes.{digit_range, letter_range, no_letter, no_digit, no_double}
+use Rattle.fv_lex.proofs.lemmas.Classes.{no_double_high, no_name, no_integer, no_text, no_sign, name_stops}
 
 -- so many bytes at the front of a text are a piece
 pub record At (text : List ℕ) (n : ℕ) (kind : Option Kind) : Type 0 where

@@ -6,8 +6,8 @@ use Rattle.fv_lex.specs.declared.token.Kind.{Kind}
 use Rattle.fv_lex.specs.declared.token.Kind.TheVariants.{Name, Integer, Text, Sign}
 use Rattle.fv_lex.specs.declared.refusal.Fault.{Fault}
 use Rattle.fv_lex.specs.declared.refusal.Fault.TheVariants.{BadByte, Unclosed, RealLiteral, LiteralTooLarge}
-use Rattle.fv_lex.specs.headline.Bytes.{is_blank, is_letter, is_digit, is_underscore, is_name_byte, is_quote, is_in_line, begins, line_feed, quote, star, plus, minus}
-use Rattle.fv_lex.specs.headline.Bytes.{dot, slash}
+use Rattle.fv_lex.specs.headline.Bytes.{is_blank, is_letter, is_digit, is_underscore, is_name_byte, is_quote}
+use Rattle.fv_lex.specs.headline.Bytes.{is_in_line, begins, line_feed, quote, star, plus, minus, dot, slash}
 use Rattle.fv_lex.specs.headline.Symbols.{sign, value}
 
 -- ---- tokens

@@ -7,7 +7,8 @@ use Rattle.fv_lines.specs.Hold.{from_start}
 use Rattle.fv_lines.proofs.lemmas.Parts.{length_part}
 use Rattle.fv_base.proofs.lemmas.Lists.{length_table, get_or_table}
 use Rattle.fv_loopcode.specs.headline.Lanes.{Lane, no_lane, lane_of}
-use Rattle.fv_lines.specs.Solo.{history_at, first_at, list_at, lanes_of, lane_at, lengths_in, shapes_in, cells_in, frames_in, origins_in, written_in, IsSolo, AreFull}
+use Rattle.fv_lines.specs.Solo.{history_at, first_at, list_at, lanes_of, lane_at, lengths_in, shapes_in}
+use Rattle.fv_lines.specs.Solo.{cells_in, frames_in, origins_in, written_in, IsSolo, AreFull}
 use Rattle.fv_lines.specs.declared.solo.Solo.{Solo}
 
 -- a lane that is there has a length

@@ -1,4 +1,5 @@
--- What no call says beside `headline/Valuation`: the streams of a list of steps, each of which reads earlier steps at the same time, and any steps at earlier times.
+-- What no call says beside `headline/Valuation`: the streams of a list of steps, each of which reads earlier steps at the same time, and
+-- any steps at earlier times.
 use Rattle.std.specs.Prelude.{◌≡◌, ℕ, suc, ◌<◌, List, [], ◌∷◌}
 use Rattle.fv_num.specs.headline.Frames.{Stream}
 use Rattle.fv_num.specs.headline.Valuation.{Meaning}

@@ -1,6 +1,5 @@
 -- What refuses a program that is spelled: static errors (this project's profile).
-use Rattle.std.specs.Prelude.{ℕ, Bool, true, false, ◌&&◌, ◌||◌, nat_eq, nat_lt, nat_le, List, [], ◌∷◌, ◌++◌, map, Option, Some, None}
-use Rattle.std.specs.Prelude.{if◌then◌else◌}
+use Rattle.std.specs.Prelude.{ℕ, Bool, true, false, ◌&&◌, ◌||◌, nat_eq, nat_lt, nat_le, List, [], ◌∷◌, ◌++◌, map, Option, Some, None, if◌then◌else◌}
 use Rattle.std.specs.Option.{option_or}
 use Rattle.std.specs.Str.{bytes_eq}
 use Rattle.fv_lex.specs.headline.Token.{Lexed}
@@ -12,8 +11,8 @@ use Rattle.fv_parse.specs.declared.clash.Among.{Among}
 use Rattle.fv_parse.specs.declared.clash.Among.TheVariants as among
 use Rattle.fv_parse.specs.declared.refusal.ParseRefusal.{ParseRefusal}
 use Rattle.fv_parse.specs.declared.refusal.ParseRefusal.TheVariants as refusals
-use Rattle.fv_parse_grammar.specs.headline.Tree.{Tree, Group, Abstraction, Case, Iteration, Ports, Slider, Panel, Delayed, Apply, Binary, Where, Rule, Constant, Function}
-use Rattle.fv_parse_grammar.specs.headline.Tree.{More}
+use Rattle.fv_parse_grammar.specs.headline.Tree.{Tree, Group, Abstraction, Case, Iteration, Ports, Slider, Panel}
+use Rattle.fv_parse_grammar.specs.headline.Tree.{Delayed, Apply, Binary, Where, Rule, Constant, Function, More}
 use Rattle.fv_parse.specs.headline.Trees.{text_of, place_at}
 use Rattle.fv_parse.specs.headline.Definitions.{definitions_of, as_name, names_in, has_process}
 

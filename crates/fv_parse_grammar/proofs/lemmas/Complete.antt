@@ -4,8 +4,8 @@ use Rattle.std.proofs.Common.{◌≡◌, ℕ, zero, suc, ◌+◌, ◌-◌, ◌<�
 use Rattle.std.specs.Prelude.{nat_eq}
 use Rattle.std.proofs.lemmas.Bool.{eq-eqb, ne_eqb}
 use Rattle.fv_lex.specs.declared.token.Symbol.{Symbol}
-use Rattle.fv_lex.specs.declared.token.Symbol.TheVariants.{Name, Text, Integer, Comma, Open, Close, OpenBrace, CloseBrace, Equals, Arrow, Semicolon, Dot}
-use Rattle.fv_lex.specs.declared.token.Symbol.TheVariants.{Declare, With, Tick}
+use Rattle.fv_lex.specs.declared.token.Symbol.TheVariants.{Name, Text, Integer, Comma, Open, Close, OpenBrace, CloseBrace}
+use Rattle.fv_lex.specs.declared.token.Symbol.TheVariants.{Equals, Arrow, Semicolon, Dot, Declare, With, Tick}
 use Rattle.fv_lex.specs.declared.token.Symbol.TheVariants as symbols
 use Rattle.fv_parse_grammar.specs.declared.form.Primitive.{Primitive as Operation}
 use Rattle.fv_parse_grammar.specs.declared.form.Primitive.TheVariants as primitives
@@ -23,18 +23,19 @@ use Rattle.fv_parse_grammar.specs.declared.symbol.Inside.TheVariants as insides
 use Rattle.fv_parse_grammar.specs.declared.symbol.Items.{Items}
 use Rattle.fv_parse_grammar.specs.declared.symbol.Items.TheVariants.{Statements, Definitions, Rules, Parts}
 use Rattle.fv_parse_grammar.specs.headline.Symbols.{head, power, operator, is_left}
-use Rattle.fv_parse_grammar.specs.headline.Tree.{Tree, Number, Negative, Named, MinusNamed, Wire, Cut, Primitive, Group, Abstraction, Case, Iteration, Ports, Switch, Slider}
-use Rattle.fv_parse_grammar.specs.headline.Grammar.{Level, Further, Definition, Expression, Listed, OneRule, Phrase, Postfix, Primary, Atom, SpellsNames, one_name, more_names}
-use Rattle.fv_parse_grammar.specs.headline.Grammar.{Spells, SpellsProgram, no_more, stated, declared, declared_for, defined, ruled, parted, first_rule, first_part, constant}
-use Rattle.fv_parse_grammar.specs.headline.Grammar.{function, rule, plain, qualified, tighter, leftward, rightward, operand, pattern_operand, bare, delayed, applied, number}
-use Rattle.fv_parse_grammar.specs.headline.Grammar.{plus_number, minus_number, minus_name, named, wire, cut, plus, minus, primitive, grouped, abstracted, cased, iterated}
-use Rattle.fv_parse_grammar.specs.headline.Grammar.{ported, switched, slid, paneled, atom_number, atom_plus_number, atom_minus_number, atom_name, atom_grouped}
+use Rattle.fv_parse_grammar.specs.headline.Tree.{Tree, Number, Negative, Named, MinusNamed, Wire, Cut, Primitive}
+use Rattle.fv_parse_grammar.specs.headline.Tree.{Group, Abstraction, Case, Iteration, Ports, Switch, Slider}
+use Rattle.fv_parse_grammar.specs.headline.Grammar.{Level, Further, Definition, Expression, Listed, OneRule, Phrase, Postfix, Primary, Atom, SpellsNames}
+use Rattle.fv_parse_grammar.specs.headline.Grammar.{one_name, more_names, Spells, SpellsProgram, no_more, stated, declared, declared_for, defined, ruled}
+use Rattle.fv_parse_grammar.specs.headline.Grammar.{parted, first_rule, first_part, constant, function, rule, plain, qualified, tighter, leftward}
+use Rattle.fv_parse_grammar.specs.headline.Grammar.{rightward, operand, pattern_operand, bare, delayed, applied, number, plus_number, minus_number}
+use Rattle.fv_parse_grammar.specs.headline.Grammar.{minus_name, named, wire, cut, plus, minus, primitive, grouped, abstracted, cased, iterated, ported}
+use Rattle.fv_parse_grammar.specs.headline.Grammar.{switched, slid, paneled, atom_number, atom_plus_number, atom_minus_number, atom_name, atom_grouped}
 use Rattle.fv_parse_grammar.specs.Nesting.{Nests}
-use Rattle.fv_parse_grammar.specs.Descent.{Done, Next, One, Skip, run, chain, Reader, power_at, primary, postfix, postfix_turn}
-use Rattle.fv_parse_grammar.specs.Descent.{phrase, left_turn, expression}
-use Rattle.fv_parse_grammar.specs.Descent.{with_turn, at_comma, a_name, name_list, definition, one_rule, further, listed, item, atom, enclosed, argument, within, program}
-use Rattle.fv_parse_grammar.specs.Descent.{after_plus, after_minus, by_head, abstraction, case_of, iteration, ports, switch, slider, panel, label, ended}
-use Rattle.fv_parse_grammar.specs.Descent.{function_after, constant_after, descend}
+use Rattle.fv_parse_grammar.specs.Descent.{Done, Next, One, Skip, run, chain, Reader, power_at, primary, postfix, postfix_turn, phrase, left_turn}
+use Rattle.fv_parse_grammar.specs.Descent.{expression, with_turn, at_comma, a_name, name_list, definition, one_rule, further, listed, item, atom}
+use Rattle.fv_parse_grammar.specs.Descent.{enclosed, argument, within, program, after_plus, after_minus, by_head, abstraction, case_of, iteration}
+use Rattle.fv_parse_grammar.specs.Descent.{ports, switch, slider, panel, label, ended, function_after, constant_after, descend}
 use Rattle.fv_parse_grammar.specs.Descent as descent
 use Rattle.fv_parse_grammar.proofs.lemmas.Loops.{run_next, run_done, chain_next, chain_done, many_one, many_skip, many_done, separated_step, separated_end}
 use Rattle.fv_parse_grammar.specs.declared.symbol.Operands.{Operands}
@@ -423,7 +424,8 @@ first_rule_reads inner ts mid rest x y p q = λ ends. let others = q ends in rw 
 -- ---- primary
 complete_names : {ts rest : List Symbol} {ns : List ℕ} → SpellsNames ts ns rest → at_comma rest ≡ false → name_list ts ≡ Ok (ns, rest)
 complete_names (one_name {n = n} {rest = rest}) off = separated_end a_name (Name n ∷ rest) n rest refl off
-complete_names (more_names {n = n} {ts = ts} p) off = let read = complete_names p off in separated_step a_name (Name n ∷ Comma ∷ ts) n (Comma ∷ ts) refl refl (omega arith) ∙ rw read refl
+complete_names (more_names {n = n} {ts = ts} p) off = let read =
+    complete_names p off in separated_step a_name (Name n ∷ Comma ∷ ts) n (Comma ∷ ts) refl refl (omega arith) ∙ rw read refl
 
 complete_number : {ts rest : List Symbol} {x : Literal} → SpellsNumber ts x rest → a_literal ts ≡ Ok (x, rest)
 complete_number unsigned = refl

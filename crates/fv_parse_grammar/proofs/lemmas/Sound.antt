@@ -4,8 +4,8 @@ use Rattle.std.proofs.Common.{◌≡◌, ℕ, zero, suc, ◌<◌, true, false, L
 use Rattle.std.specs.Prelude.{nat_lt, nat_eq}
 use Rattle.std.proofs.lemmas.Bool.{eqb-true}
 use Rattle.fv_lex.specs.declared.token.Symbol.{Symbol}
-use Rattle.fv_lex.specs.declared.token.Symbol.TheVariants.{Name, Text, Integer, Comma, Open, Close, OpenBrace, CloseBrace, Equals, Arrow, Semicolon, Dot}
-use Rattle.fv_lex.specs.declared.token.Symbol.TheVariants.{Declare, With, Tick}
+use Rattle.fv_lex.specs.declared.token.Symbol.TheVariants.{Name, Text, Integer, Comma, Open, Close, OpenBrace, CloseBrace}
+use Rattle.fv_lex.specs.declared.token.Symbol.TheVariants.{Equals, Arrow, Semicolon, Dot, Declare, With, Tick}
 use Rattle.fv_lex.specs.declared.token.Symbol.TheVariants as symbols
 use Rattle.fv_parse_grammar.specs.declared.form.Primitive.TheVariants as primitives
 use Rattle.fv_parse_grammar.specs.headline.Grammar.{SpellsNumbers, waved}
@@ -23,23 +23,25 @@ use Rattle.fv_parse_grammar.specs.declared.symbol.Items.{Items}
 use Rattle.fv_parse_grammar.specs.declared.symbol.Items.TheVariants.{Statements, Definitions, Rules, Parts}
 use Rattle.fv_parse_grammar.specs.declared.symbol.Mark.TheVariants as marks
 use Rattle.fv_parse_grammar.specs.headline.Symbols.{head, power, operator, is_left}
-use Rattle.fv_parse_grammar.specs.headline.Tree.{Tree, Number, Negative, Named, MinusNamed, Wire, Cut, Primitive, Group, Abstraction, Case, Iteration, Ports, Switch, Slider}
+use Rattle.fv_parse_grammar.specs.headline.Tree.{Tree, Number, Negative, Named, MinusNamed, Wire, Cut, Primitive}
+use Rattle.fv_parse_grammar.specs.headline.Tree.{Group, Abstraction, Case, Iteration, Ports, Switch, Slider}
 use Rattle.fv_parse_grammar.specs.headline.Grammar.{Level, Further, Definition, Expression, Listed, OneRule, Phrase, Postfix, Primary, Atom, SpellsNames}
-use Rattle.fv_parse_grammar.specs.headline.Grammar.{Spells, SpellsProgram, no_more, stated, declared, declared_for, defined, ruled, parted, first_rule, first_part, constant}
-use Rattle.fv_parse_grammar.specs.headline.Grammar.{function, rule, plain, qualified, tighter, leftward, rightward, operand, pattern_operand, bare, delayed, applied, number}
-use Rattle.fv_parse_grammar.specs.headline.Grammar.{plus_number, minus_number, minus_name, named, wire, cut, plus, minus, primitive, grouped, abstracted, cased, iterated}
-use Rattle.fv_parse_grammar.specs.headline.Grammar.{ported, switched, slid, paneled, atom_number, atom_plus_number, atom_minus_number, atom_name, atom_grouped}
+use Rattle.fv_parse_grammar.specs.headline.Grammar.{Spells, SpellsProgram, no_more, stated, declared, declared_for, defined, ruled, parted, first_rule}
+use Rattle.fv_parse_grammar.specs.headline.Grammar.{first_part, constant, function, rule, plain, qualified, tighter, leftward, rightward, operand}
+use Rattle.fv_parse_grammar.specs.headline.Grammar.{pattern_operand, bare, delayed, applied, number, plus_number, minus_number, minus_name, named, wire}
+use Rattle.fv_parse_grammar.specs.headline.Grammar.{cut, plus, minus, primitive, grouped, abstracted, cased, iterated, ported, switched, slid, paneled}
+use Rattle.fv_parse_grammar.specs.headline.Grammar.{atom_number, atom_plus_number, atom_minus_number, atom_name, atom_grouped}
 use Rattle.fv_parse_grammar.specs.Descent as descent
-use Rattle.fv_parse_grammar.specs.Descent.{enclosed, argument, group, abstraction, case_of, iteration, ports, switch, label}
-use Rattle.fv_parse_grammar.specs.Descent.{slider, panel, by_head, primary, postfix, postfix_turn, atom_by_head, atom, phrase, left_turn, expression, with_turn}
-use Rattle.fv_parse_grammar.specs.Descent.{ended, function_after, constant_after, after_name, definition, one_rule, declared_text, declaration, Item, Nothing, Skip}
-use Rattle.fv_parse_grammar.specs.Descent.{One, Fault, one_of, item, with_item, many, further, listed, within, program, whole_text}
+use Rattle.fv_parse_grammar.specs.Descent.{enclosed, argument, group, abstraction, case_of, iteration, ports, switch, label, slider, panel, by_head}
+use Rattle.fv_parse_grammar.specs.Descent.{primary, postfix, postfix_turn, atom_by_head, atom, phrase, left_turn, expression, with_turn, ended}
+use Rattle.fv_parse_grammar.specs.Descent.{function_after, constant_after, after_name, definition, one_rule, declared_text, declaration, Item}
+use Rattle.fv_parse_grammar.specs.Descent.{Nothing, Skip, One, Fault, one_of, item, with_item, many, further, listed, within, program, whole_text}
 use Rattle.fv_parse_grammar.specs.declared.symbol.Operands.{Operands}
 use Rattle.fv_parse_grammar.specs.declared.symbol.Commas.{Commas}
 use Rattle.fv_parse_grammar.specs.declared.symbol.Operands.TheVariants as operands
 use Rattle.fv_parse_grammar.specs.declared.symbol.Commas.TheVariants as commas
-use Rattle.fv_parse_grammar.proofs.lemmas.Tokens.{bind_ok, turn_next, took, read_as, expect_ok, a_name_ok, a_text_ok, is_integer, is_name, is_plus, is_minus}
-use Rattle.fv_parse_grammar.proofs.lemmas.Tokens.{is_underscore, is_exclamation, is_open, is_backslash, is_case, is_waveform}
+use Rattle.fv_parse_grammar.proofs.lemmas.Tokens.{bind_ok, turn_next, took, read_as, expect_ok, a_name_ok, a_text_ok, is_integer, is_name}
+use Rattle.fv_parse_grammar.proofs.lemmas.Tokens.{is_plus, is_minus, is_underscore, is_exclamation, is_open, is_backslash, is_case, is_waveform}
 use Rattle.fv_parse_grammar.proofs.Separated.{either, run_keeps, names_sound, literals_sound}
 
 -- the level of what stands in brackets
@@ -76,7 +78,8 @@ waveform_sound ts x rest e =
     subst (λ r. SpellsNumbers opened xs.0 r) (expect_ok marks.CloseBrace xs.1 closed c) (literals_sound opened xs.0 xs.1 read) in
     let all : Spells Primary (symbols.Waveform ∷ OpenBrace ∷ opened) (Waveform (length (symbols.Waveform ∷ OpenBrace ∷ opened)) xs.0) closed = waved inside in
     moved Primary (symbols.Waveform ∷ ts) (Waveform (length (symbols.Waveform ∷ ts)) xs.0) x closed rest
-    (subst (λ l. Spells Primary (symbols.Waveform ∷ l) (Waveform (length (symbols.Waveform ∷ l)) xs.0) closed) (sym (expect_ok marks.OpenBrace ts opened o)) all) done
+    (subst (λ l. Spells Primary (symbols.Waveform ∷ l) (Waveform (length (symbols.Waveform ∷ l)) xs.0) closed)
+    (sym (expect_ok marks.OpenBrace ts opened o)) all) done
 
 label_ok : (ts : List Symbol) (s : ℕ) (rest : List Symbol) → label ts ≡ Ok (s, rest) → ts ≡ Open ∷ Text s ∷ Comma ∷ rest
 unfolding label

@@ -10,9 +10,10 @@ use Rattle.fv_parse_tree.specs.declared.node.TreeId.{TreeId}
 use Rattle.fv_parse_tree.specs.declared.node.TreeNode.{TreeNode}
 use Rattle.fv_parse_tree.specs.declared.node.TreeNode.TheVariants as nodes
 use Rattle.fv_parse_tree.specs.declared.pending.Pending.{Pending}
-use Rattle.fv_parse_grammar.specs.headline.Tree.{Tree, End, More, Group, Abstraction, Case, Iteration, Ports, Slider, Panel, Delayed, Apply, Binary, Where, Rule, Constant}
-use Rattle.fv_parse_grammar.specs.headline.Tree.{Function}
-use Rattle.fv_parse_tree.specs.Arena.{tree_at, tree_of, entry_tree, trees, Keeps, Adds, forest, AreInside, lean, AllBelow, PartsBelow, EntryBelow, AreOver, AreBuilt}
+use Rattle.fv_parse_grammar.specs.headline.Tree.{Tree, End, More, Group, Abstraction, Case, Iteration, Ports, Slider}
+use Rattle.fv_parse_grammar.specs.headline.Tree.{Panel, Delayed, Apply, Binary, Where, Rule, Constant, Function}
+use Rattle.fv_parse_tree.specs.Arena.{tree_at, tree_of, entry_tree, trees, Keeps, Adds, forest, AreInside}
+use Rattle.fv_parse_tree.specs.Arena.{lean, AllBelow, PartsBelow, EntryBelow, AreOver, AreBuilt}
 
 -- a number below a bound, and a part that stands below it
 abbrev pub Under : ℕ → TreeId → Type 0

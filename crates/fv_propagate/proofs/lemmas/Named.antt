@@ -1,5 +1,6 @@
 -- What the signals of a graph name: inputs and controls that are there, numbers of 32 bits, and delays of the list.
-use Rattle.std.proofs.Common.{◌≡◌, ℕ, zero, suc, ◌<◌, ◌≤◌, List, [], ◌∷◌, length, get_or, refl, sym, ◌∙◌, subst, arith, All, pos, inl, inr, w32, FitsSigned, ℤ, Bool, true, false}
+use Rattle.std.proofs.Common.{◌≡◌, ℕ, zero, suc, ◌<◌, ◌≤◌, List, [], ◌∷◌, length, get_or, refl, sym, ◌∙◌}
+use Rattle.std.proofs.Common.{subst, arith, All, pos, inl, inr, w32, FitsSigned, ℤ, Bool, true, false}
 use Rattle.std.proofs.lemmas.List.Elements.{All-drop, All-get_or}
 use Rattle.std.proofs.lemmas.Int.{ints}
 use Rattle.fv_base.proofs.lemmas.Lists.{length_table}
@@ -14,12 +15,11 @@ use Rattle.fv_diagram.specs.headline.Diagram.{Diagram}
 use Rattle.fv_diagram.specs.headline.Diagram as diagram
 use Rattle.fv_diagram.specs.Diagram as more_diagram
 use Rattle.fv_diagram.proofs.lemmas.Meaning.{AllLists}
-use Rattle.fv_diagram.specs.Hooks.{Hooks}
-use Rattle.fv_diagram.specs.Hooks.{padded}
+use Rattle.fv_diagram.specs.Hooks.{Hooks, padded}
 use Rattle.fv_propagate.specs.declared.progress.Feedback.{Feedback}
 use Rattle.fv_propagate.specs.headline.Propagated.{HasControl}
-use Rattle.fv_propagate.specs.inner.Progress.{Progress, put, puts, passed, grouped, put_mem, put_prefix, leaf_of, opened_of, shut, signal_hooks}
-use Rattle.fv_propagate.specs.inner.Progress.{late_of, counted_of, listed, table_node, tabled_of}
+use Rattle.fv_propagate.specs.inner.Progress.{Progress, put, puts, passed, grouped, put_mem, put_prefix, leaf_of, opened_of}
+use Rattle.fv_propagate.specs.inner.Progress.{shut, signal_hooks, late_of, counted_of, listed, table_node, tabled_of}
 use Rattle.fv_propagate.proofs.Alongside.{AreOfLeaves, IsOfLeaf, KeepAlong, related_places, related_length}
 use Rattle.fv_propagate.proofs.Puts.{put_cases, puts_wide, listed_is}
 use Rattle.fv_propagate.proofs.Goes.{IsGood, filled, close_wide}
@@ -158,7 +158,8 @@ module _ (ins : ℕ) (IsControl : ℕ → Type 0) (IsLimit : ℕ → Type 0) (no
 
 -- ---- the numbers and controls of a diagram
 
-pub leaves_had : (IsControl : ℕ → Type 0) (L : List ℤ → Type 0) (d : Diagram) → AllLists L d → more_diagram.HasNumbers d → ((k : ℕ) → HasControl d k → IsControl k)
+pub leaves_had : (IsControl : ℕ → Type 0) (L : List ℤ → Type 0) (d : Diagram) → AllLists L d → more_diagram.HasNumbers d →
+    ((k : ℕ) → HasControl d k → IsControl k)
     → AreOfLeaves (FitsSigned w32) IsControl L d
 leaves_had C L (diagram.Primitive p) f h l = tt
 leaves_had C L (diagram.Constant z) f h l = h

@@ -1,6 +1,6 @@
 -- Evaluation: the rules (Faust manual; this project's profile).
-use Rattle.std.specs.Prelude.{ℕ, zero, suc, ◌-◌, Bool, false, ◌&&◌, nat_eq, nat_lt, List, [], ◌∷◌, ◌++◌, length, map, replicate, codes, ℤ}
-use Rattle.std.specs.Prelude.{pos, negsuc, neg_ℤ, Option, Some, None, Result, Ok, Err, if◌then◌else◌}
+use Rattle.std.specs.Prelude.{ℕ, zero, suc, ◌-◌, Bool, false, ◌&&◌, nat_eq, nat_lt, List, [], ◌∷◌, ◌++◌, length, map}
+use Rattle.std.specs.Prelude.{replicate, codes, ℤ, pos, negsuc, neg_ℤ, Option, Some, None, Result, Ok, Err, if◌then◌else◌}
 use Rattle.fv_base.specs.declared.limits.TheConstants.{VISIT_LIMIT}
 use Rattle.fv_lex.specs.headline.Token.{Lexed}
 use Rattle.fv_diagram.specs.Words.{wrap, argument}
@@ -34,7 +34,8 @@ use Rattle.fv_rules.specs.headline.Values.{Name, Rule, Value, Flat, Abstraction,
 use Rattle.fv_rules.specs.headline.Values.{Parameters, Cases, Meaning, IsValue, IsDefined, Unknown, lookup, rule_of, in_order, count_taken}
 use Rattle.fv_diagram_head.specs.Numbers.{number_of}
 use Rattle.fv_rules.specs.headline.Matching.{Bindings, settled, value_number, bound_in, chosen}
-use Rattle.fv_rules.specs.headline.Steps.{State, Outcome, Eval, ◌>>=◌, give, refuse, no_number, no_rule, no_diagram, visit, fresh_slots, put, waved, whole, control}
+use Rattle.fv_rules.specs.headline.Steps.{State, Outcome, Eval, ◌>>=◌, give, refuse, no_number, no_rule}
+use Rattle.fv_rules.specs.headline.Steps.{no_diagram, visit, fresh_slots, put, waved, whole, control}
 pub use Rattle.fv_diagram_head.specs.headline.Heads.{all_outputs}
 
 -- ---- one name for each primitive

@@ -1,5 +1,6 @@
 -- What holds of all drafts stays so.
-use Rattle.std.proofs.Common.{◌≡◌, inl, inr, ℕ, ◌+◌, ◌<◌, ◌≤◌, List, [], ◌∷◌, ◌++◌, length, get_or, zero, suc, refl, sym, ap, ◌∙◌, subst, arith, All, true, false, ℤ, w32, FitsSigned}
+use Rattle.std.proofs.Common.{◌≡◌, inl, inr, ℕ, ◌+◌, ◌<◌, ◌≤◌, List, [], ◌∷◌, ◌++◌, length, get_or, zero, suc}
+use Rattle.std.proofs.Common.{refl, sym, ap, ◌∙◌, subst, arith, All, true, false, ℤ, w32, FitsSigned}
 use Rattle.std.specs.Prelude.{slice_set}
 use Rattle.std.proofs.lemmas.Bool.{cases_lt, cases_eq}
 use Rattle.std.proofs.lemmas.List.{length_push, get_or_push, get_or_append_left, length-set, get_or-set_same, get_or-set_other}
@@ -10,8 +11,8 @@ use Rattle.fv_signal.specs.declared.signal.Signal.{Signal}
 use Rattle.fv_signal.specs.declared.signal.Signal.TheVariants.{Input, Const, Control, Point, Delay, Back, Member, Read, Write}
 use Rattle.fv_signal.specs.headline.Value.{OperandsBelow, NamesWithin, HasNumber, HaveNumbers, IsGraph}
 use Rattle.fv_num.specs.headline.Words.{argument}
-use Rattle.fv_share.specs.Drafts.{Draft, graph_of, IsShut, IsPending, AreClosed, NamesSoFar, OperandsThere, CanPut, BacksWithin, IsDraft, same, put}
-use Rattle.fv_share.specs.Drafts.{with_group, with_members, with_table}
+use Rattle.fv_share.specs.Drafts.{Draft, graph_of, IsShut, IsPending, AreClosed, NamesSoFar, OperandsThere, CanPut}
+use Rattle.fv_share.specs.Drafts.{BacksWithin, IsDraft, same, put, with_group, with_members, with_table}
 use Rattle.fv_share.proofs.lemmas.Puts.{inserted}
 
 -- ---- one signal more

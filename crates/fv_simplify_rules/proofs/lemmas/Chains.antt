@@ -1,6 +1,6 @@
 -- In a graph that is rebuilt from a folded one, no delay of a delay is reducible.
-use Rattle.std.proofs.Common.{◌≡◌, ◌⊎◌, ℕ, zero, suc, ◌+◌, ◌<◌, ◌≤◌, List, [], ◌∷◌, length, take, map, get_or, refl, sym, ap, ap₂, ◌∙◌, subst, arith, inl}
-use Rattle.std.proofs.Common.{inr, ℤ, pos, Some, None, true, false, Bool, if◌then◌else◌, nat_le}
+use Rattle.std.proofs.Common.{◌≡◌, ◌⊎◌, ℕ, zero, suc, ◌+◌, ◌<◌, ◌≤◌, List, [], ◌∷◌, length, take, map, get_or, refl, sym, ap}
+use Rattle.std.proofs.Common.{ap₂, ◌∙◌, subst, arith, inl, inr, ℤ, pos, Some, None, true, false, Bool, if◌then◌else◌, nat_le}
 use Rattle.std.specs.Prelude.{Option}
 use Rattle.std.proofs.lemmas.Int.{ints, clamps}
 use Rattle.std.proofs.lemmas.Bool.{leb-false}
@@ -15,11 +15,11 @@ use Rattle.fv_simplify_rules.specs.Choices.{left_by, or_else, selected2, selecte
 use Rattle.fv_simplify_rules.specs.Nodes.{node, StandsAt, number, number_at, known, before, numbers, operands}
 use Rattle.fv_simplify_rules.specs.headline.Reducible.{limit}
 use Rattle.fv_simplify_rules.specs.Reducible.{IsDelayedBy, Reads, IsTakenOver, IsReducible}
-use Rattle.fv_simplify_rules.specs.Rebuilt.{back_by, taken, base_of, base, AsNumber, AsOperand, AsItself, IsDelayImage, AtOnce, LateNothing, Late, Nothing}
-use Rattle.fv_simplify_rules.specs.Rebuilt.{Varying, IsImage, IsRebuilt, IsFolded, IsRoom}
+use Rattle.fv_simplify_rules.specs.Rebuilt.{back_by, taken, base_of, base, AsNumber, AsOperand, AsItself, IsDelayImage, AtOnce}
+use Rattle.fv_simplify_rules.specs.Rebuilt.{LateNothing, Late, Nothing, Varying, IsImage, IsRebuilt, IsFolded, IsRoom}
 use Rattle.fv_simplify_rules.proofs.lemmas.Choices.{choice_within}
-use Rattle.fv_simplify_rules.proofs.lemmas.Origins.{number_node, Itself, Over, base_cases, Origin, OfNumber, OfInput, OfControl, OfBack, OfRead, OfWrite, OfPoint, OfLate, OfVarying}
-use Rattle.fv_simplify_rules.proofs.lemmas.Origins.{origin, tight, arg_on, delay_on}
+use Rattle.fv_simplify_rules.proofs.lemmas.Origins.{number_node, Itself, Over, base_cases, Origin, OfNumber, OfInput, OfControl, OfBack}
+use Rattle.fv_simplify_rules.proofs.lemmas.Origins.{OfRead, OfWrite, OfPoint, OfLate, OfVarying, origin, tight, arg_on, delay_on}
 use Rattle.fv_simplify_rules.proofs.Irreducible.{standing, irreducible}
 
 -- the choice speaks of the first two operands alone

@@ -1,6 +1,6 @@
 -- A rebuilt graph reads no further back.
-use Rattle.std.proofs.Common.{◌≡◌, ℕ, zero, suc, ◌+◌, ◌<◌, ◌≤◌, List, [], ◌∷◌, length, take, map, get_or, refl, sym, ap, ◌∙◌, subst, arith, inl, inr, ℤ, pos}
-use Rattle.std.proofs.Common.{negsuc, Some, None, if◌then◌else◌}
+use Rattle.std.proofs.Common.{◌≡◌, ℕ, zero, suc, ◌+◌, ◌<◌, ◌≤◌, List, [], ◌∷◌, length, take, map, get_or, refl}
+use Rattle.std.proofs.Common.{sym, ap, ◌∙◌, subst, arith, inl, inr, ℤ, pos, negsuc, Some, None, if◌then◌else◌}
 use Rattle.std.specs.Prelude.{Option, ◌≤ℤ◌}
 use Rattle.std.proofs.lemmas.Int.{ints, clamps}
 use Rattle.std.proofs.lemmas.Bool.{eq-eqb, cases_eq}
@@ -12,11 +12,11 @@ use Rattle.fv_signal.specs.headline.Value.{Graph, definition, IsGraph}
 use Rattle.fv_simplify_rules.specs.Nodes.{node, StandsAt, number, number_at, known}
 use Rattle.fv_simplify_rules.specs.headline.Reducible.{limit, AreShort}
 use Rattle.fv_simplify_rules.specs.Reducible.{far, farthest, reach}
-use Rattle.fv_simplify_rules.specs.Rebuilt.{back_by, base, AsNumber, AsOperand, AsItself, AtOnce, LateNothing, Late, Nothing, Varying, IsImage, IsRebuilt}
-use Rattle.fv_simplify_rules.specs.Rebuilt.{RoomIsSafe}
+use Rattle.fv_simplify_rules.specs.Rebuilt.{back_by, base, AsNumber, AsOperand, AsItself, AtOnce, LateNothing}
+use Rattle.fv_simplify_rules.specs.Rebuilt.{Late, Nothing, Varying, IsImage, IsRebuilt, RoomIsSafe}
 use Rattle.fv_simplify_rules.proofs.lemmas.Choices.{choice_within}
-use Rattle.fv_simplify_rules.proofs.lemmas.Origins.{Taken, Itself, Over, base_cases, Origin, OfNumber, OfInput, OfControl, OfBack, OfRead, OfWrite, OfPoint, OfLate, OfVarying}
-use Rattle.fv_simplify_rules.proofs.lemmas.Origins.{origin, arg_on, delay_on, member_on}
+use Rattle.fv_simplify_rules.proofs.lemmas.Origins.{Taken, Itself, Over, base_cases, Origin, OfNumber, OfInput, OfControl, OfBack}
+use Rattle.fv_simplify_rules.proofs.lemmas.Origins.{OfRead, OfWrite, OfPoint, OfLate, OfVarying, origin, arg_on, delay_on, member_on}
 use Rattle.fv_simplify_rules.proofs.Stays.{back_least}
 use Rattle.fv_simplify_rules.proofs.lemmas.Totals.{differ, total_is, total_least, owned, owned_all, owned_later, owned_with}
 

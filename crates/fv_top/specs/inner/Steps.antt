@@ -1,5 +1,5 @@
--- What no call says beside `headline/Steps`: steps in order: each asks the desk for its files, takes its turns of reading or writing, and judges what it found; the
--- first that cannot go on ends all (this project's profile).
+-- What no call says beside `headline/Steps`: steps in order: each asks the desk for its files, takes its turns of reading or writing, and
+-- judges what it found; the first that cannot go on ends all (this project's profile).
 use Rattle.std.specs.Prelude.{◌≡◌}
 use Rattle.fv_top_report.specs.declared.refusal.Refusal.{Refusal}
 use Rattle.fv_top.specs.headline.Steps.{Rules}

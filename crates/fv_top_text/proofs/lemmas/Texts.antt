@@ -37,7 +37,8 @@ whole_cut text bytes r e (kept l h) = kept l (whole_has text bytes (Ok l) e h)
 whole_cut text bytes r e (turned f h) = turned f (whole_has text bytes (Err f) e h)
 
 -- what holds of first answers holds of those behind them
-pub then_front : {X A B E : Type 0} (P : X → Result A E → Type 0) (Q : A → Result B E → Type 0) (x y : X) → ((r : Result A E) → P x r → P y r) → (r : Result B E)
+pub then_front : {X A B E : Type 0} (P : X → Result A E → Type 0) (Q : A → Result B E → Type 0) (x y : X) → ((r : Result A E) → P x r → P y r) →
+    (r : Result B E)
     → Then P Q x r → Then P Q y r
 then_front P Q x y h r (stops f k) = stops f (h (Err f) k)
 then_front P Q x y h r (goes_on a s k l) = goes_on a r (h (Ok a) k) l

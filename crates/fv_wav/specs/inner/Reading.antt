@@ -1,7 +1,6 @@
--- What no call says beside `headline/Reading`: the head of a WAV file, as its bytes come: each rule is tried as soon as the bytes that it speaks of are there (RIFF WAVE
--- 1991; WAVE_FORMAT_EXTENSIBLE; the order of the rules is this project's profile).
-use Rattle.std.specs.Prelude.{ℕ, zero, suc}
-use Rattle.std.specs.Prelude.{Option, Result}
+-- What no call says beside `headline/Reading`: the head of a WAV file, as its bytes come: each rule is tried as soon as the bytes that it
+-- speaks of are there (RIFF WAVE 1991; WAVE_FORMAT_EXTENSIBLE; the order of the rules is this project's profile).
+use Rattle.std.specs.Prelude.{ℕ, zero, suc, Option, Result}
 use Rattle.fv_wav.specs.declared.head.Head.{Head}
 use Rattle.fv_wav.specs.declared.head.Format.{Format}
 use Rattle.fv_wav.specs.declared.head.Kind.{Kind}

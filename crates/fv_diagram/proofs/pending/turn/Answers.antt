@@ -2,7 +2,8 @@ use Rattle.std.proofs.Common.{◌∷◌, ap, ◌∙◌, rules, length, Global, A
 use Rattle.std.specs.declared.collections.VecDeque.{VecDeque}
 use Rattle.std.proofs.lemmas.Result.{IfOk-weaker}
 use Rattle.fv_diagram.specs.declared.pending.Task.TheVariants as task
-use Rattle.fv_diagram.proofs.lemmas.Turns.{by_task, right_advances, join_advances, deal_advances, sum_advances, before_advances, close_advances, unplug_advances}
+use Rattle.fv_diagram.proofs.lemmas.Turns.{by_task, right_advances, join_advances, deal_advances}
+use Rattle.fv_diagram.proofs.lemmas.Turns.{sum_advances, before_advances, close_advances, unplug_advances}
 use Rattle.fv_diagram.proofs.pending.turn.Goals as goal
 
 pub returns-in_ok-push_front-in-Right-2 : goal.returns-in_ok-push_front-in-Right-2

@@ -4,7 +4,8 @@ use Rattle.std.proofs.lemmas.Result.{IfOk-weaker}
 use Rattle.fv_diagram.specs.headline.Diagram.{Constant, Wave, Table}
 use Rattle.fv_diagram.specs.Arena.{count_of}
 use Rattle.fv_diagram.specs.declared.pending.Task.TheVariants as task
-use Rattle.fv_diagram.proofs.lemmas.Turns.{leaf_advances, slot_advances, bind_advances, par_advances, seq_advances, split_advances, merge_advances, rec_advances}
+use Rattle.fv_diagram.proofs.lemmas.Turns.{leaf_advances, slot_advances, bind_advances, par_advances}
+use Rattle.fv_diagram.proofs.lemmas.Turns.{seq_advances, split_advances, merge_advances, rec_advances}
 use Rattle.fv_diagram.proofs.pending.visit.Goals as goal
 
 pub returns-in-Prim : goal.returns-in-Prim

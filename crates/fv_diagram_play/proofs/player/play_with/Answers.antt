@@ -41,7 +41,8 @@ loop-i-preserved c =
     let stands = c.loop-i.invariant.stands in
     let come = c.listen-at.ensures.come c.loop-i.invariant.come in
     let now : values ≡ applied initial (take c.listen-at.result changes) = c.listen-at.ensures.values initial c.loop-i.invariant.values in
-    let are : values ≡ heard_at changes initial n = now ∙ values_are changes initial c.listen-at.result n c.values_held.ensures come (c.listen-at.ensures.behind c.requires.order) in
+    let are : values ≡ heard_at changes initial n = now ∙ values_are changes initial c.listen-at.result n c.values_held.ensures come
+    (c.listen-at.ensures.behind c.requires.order) in
     let held : C ++ values ∷ [] ≡ table (n + 1) (heard_at changes initial) =
     ap (λ (v : Frame). C ++ v ∷ []) are ∙ ap (λ k. table k (heard_at changes initial)) (sym (add-one n)) in
     let more : rows w (n + 1) xs ≡ X ++ frame ∷ [] = ap (λ k. rows w k xs) (add-one n) ∙ ap (λ (x : Frame). X ++ x ∷ []) (sym c.frame_of-frame.ensures) in

@@ -47,7 +47,8 @@ module _ (g : Over) (c : After-run_tasks g) where
   opened = state_of c.args.plan.now (g.L.LaneStore.lanes c.args.lanes.now) c.args.lists.now
 
   done : IsUnderway c.begin.new.self.tasks.tasks block opened c.begin.new.self.core.now opened c.begin.new.self.lines.items
-      → IsDone c.begin.new.self.tasks.tasks block opened (state_of c.run_tasks.new.store.plan.now (g.L.LaneStore.lanes c.run_tasks.new.store.lanes.now) c.run_tasks.new.store.lists.now) c.run_tasks.new.lines.items
+      → IsDone c.begin.new.self.tasks.tasks block opened (state_of c.run_tasks.new.store.plan.now
+      (g.L.LaneStore.lanes c.run_tasks.new.store.lanes.now) c.run_tasks.new.store.lists.now) c.run_tasks.new.lines.items
   done u = record {
     job = subst (λ (t : Graph). IsJob block t.tasks) (sym c.begin.ensures.tasks) c.requires.job;
     real = c.requires.real;

@@ -50,7 +50,8 @@ module _ (g : Over) (c : After-alone g) where
   ends : state_of c.args.plan.now (lanes_of c.begin-solo.result) c.args.lists.now ≡ opened
       → EndsBlock c.args.runner.now.tasks.tasks block opened (state_of c.args.plan.now (lanes_of solo) c.alone.new.lists) c.alone.new.runner.lines.items
   ends e =
-      subst (λ (s : State). EndsBlock c.args.runner.now.tasks.tasks block s (state_of c.args.plan.now (lanes_of solo) c.alone.new.lists) c.alone.new.runner.lines.items)
+      subst (λ (s : State). EndsBlock c.args.runner.now.tasks.tasks block s (state_of c.args.plan.now (lanes_of solo) c.alone.new.lists)
+      c.alone.new.runner.lines.items)
       e c.alone.ensures.ends
 
   done : state_of c.args.plan.now (lanes_of c.begin-solo.result) c.args.lists.now ≡ opened

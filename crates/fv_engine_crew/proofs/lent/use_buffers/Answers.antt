@@ -35,7 +35,8 @@ module _ (g : Over) (c : After-end-rest g) where
       (chain_later begun ws (loan_of c.args.uncut) (loan_of c.begin_lanes.new.uncut) same c.begin_lanes.ensures.chain)
 
 pub begin_lanes-requires-clause-may : goal.begin_lanes-requires-clause-may
-begin_lanes-requires-clause-may g c = may_begin c.args.pack.now.block.now c.args.pack.now.states.now (left_of c.args.uncut) c.args.pack.now.lists.now.items c.requires.may.over
+begin_lanes-requires-clause-may g c = may_begin c.args.pack.now.block.now c.args.pack.now.states.now (left_of c.args.uncut)
+    c.args.pack.now.lists.now.items c.requires.may.over
 
 pub run_begun-requires-clause-begun : goal.run_begun-requires-clause-begun
 run_begun-requires-clause-begun g c = λ κs within. are_open (handed g (goal.at.run_begun-requires-clause-begun g c).After-end-rest)

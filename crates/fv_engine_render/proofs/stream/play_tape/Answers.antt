@@ -103,7 +103,8 @@ returns-in-Err-say-clause-stops g c =
       small = search rules;
     } in
     stops (block_more c.args.plan.now.loops c.requires.plan.loops i.streamed block) c.requires.plan.outputs _ i.all (Saying out) refl
-    (c.in-Err-say.ensures.err c.args.tape.now c.args.world.now (i.heard ++ piece) i.all (c.in-Ok-hear.ensures.ok c.args.tape.now c.args.world.now i.heard i.all i.went))
+    (c.in-Err-say.ensures.err c.args.tape.now c.args.world.now (i.heard ++ piece) i.all
+    (c.in-Ok-hear.ensures.ok c.args.tape.now c.args.world.now i.heard i.all i.went))
 
 pub playing-preserved : goal.playing-preserved
 playing-preserved g c =
@@ -173,7 +174,8 @@ playing-preserved g c =
       left = omega (arith, left, left_heard, left_said);
       heard = i.heard ++ piece;
       all = i.all ++ out;
-      went = c.in-Ok-say.ensures.ok c.args.tape.now c.args.world.now (i.heard ++ piece) i.all (c.in-Ok-hear.ensures.ok c.args.tape.now c.args.world.now i.heard i.all i.went);
+      went = c.in-Ok-say.ensures.ok c.args.tape.now c.args.world.now (i.heard ++ piece) i.all
+          (c.in-Ok-hear.ensures.ok c.args.tape.now c.args.world.now i.heard i.all i.went);
       streamed = block_more c.args.plan.now.loops c.requires.plan.loops i.streamed block;
     }
 

@@ -8,7 +8,8 @@ pub returns-then-not-branch-clause-matched : goal.returns-then-not-branch-clause
 returns-then-not-branch-clause-matched c =
     let new = c.advance.new in
     let found = c.args.found.now.items in
-    let begun = loop_begins c.args.tree.now c.args.diagrams.now c.args.numbers.now c.args.whole (c.args.whole ∷ []) found c.requires.known c.requires.whole refl in
+    let begun = loop_begins c.args.tree.now c.args.diagrams.now c.args.numbers.now c.args.whole (c.args.whole ∷ []) found c.requires.known
+    c.requires.whole refl in
     let refuses = refused_by c.args.tree.now c.args.diagrams.now new.diagrams c.args.whole c.new-pending.result.items new.pending.items found
     new.found.items _ c.if-not-branch.true c.in_ok-advance.ensures.matched in
     loop_refuses {rest = []} new.diagrams new.found.items begun (record { is = refl }) refuses
@@ -17,7 +18,8 @@ pub loop-pair-init : goal.loop-pair-init
 loop-pair-init c =
     let new = c.advance.new in
     let found = c.args.found.now.items in
-    let begun = loop_begins c.args.tree.now c.args.diagrams.now c.args.numbers.now c.args.whole (c.args.whole ∷ []) found c.requires.known c.requires.whole refl in
+    let begun = loop_begins c.args.tree.now c.args.diagrams.now c.args.numbers.now c.args.whole (c.args.whole ∷ []) found c.requires.known
+    c.requires.whole refl in
     let leaves = left_by c.args.tree.now c.args.diagrams.now new.diagrams c.args.whole c.new-pending.result.items new.pending.items found
     new.found.items _ c.if-not-branch.false c.in_ok-advance.ensures.matched in
     loop_goes_on begun (record { is = ap (λ xs. xs ++ c.args.whole ∷ []) (sym c.new-pending.ensures.items) }) c.in_ok-advance.ensures.adds

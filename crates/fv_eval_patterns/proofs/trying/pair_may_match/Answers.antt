@@ -12,7 +12,8 @@ loop-task-init c =
 
 pub attempt-requires-clause-pair : goal.attempt-requires-clause-pair
 attempt-requires-clause-pair c =
-    (leads_next c.loop-task.invariant (task_taken {t = Try c.in-Try.pair} c.pop.new.self.items c.pop.ensures.items (c.in-Some.is ∙ ap (λ t. Some t) c.in-Try.is))).0
+    (leads_next c.loop-task.invariant (task_taken {t = Try c.in-Try.pair} c.pop.new.self.items c.pop.ensures.items
+    (c.in-Some.is ∙ ap (λ t. Some t) c.in-Try.is))).0
 
 pub returns-in_err-note_misses-in-Try-clause-recalls : goal.returns-in_err-note_misses-in-Try-clause-recalls
 returns-in_err-note_misses-in-Try-clause-recalls c =

@@ -13,7 +13,8 @@ use Rattle.fv_join.proofs.copying.append.Goals as goal
 pub images-requires-clause-room : goal.images-requires-clause-room
 images-requires-clause-room c =
     let job = c.args.job.now in
-    let begun = c.in_ok-_end.ensures.ok ∙ c.in_ok-tables.ensures.ok ∙ ap (λ (d : Draft). with_tables d c.args.job.now.graph.tables) (c.in_ok-first.ensures.ok ∙ ap (with_groups c.args.builder.now) c.groups.ensures) in
+    let begun = c.in_ok-_end.ensures.ok ∙ c.in_ok-tables.ensures.ok
+    ∙ ap (λ (d : Draft). with_tables d c.args.job.now.graph.tables) (c.in_ok-first.ensures.ok ∙ ap (with_groups c.args.builder.now) c.groups.ensures) in
     let long = opened_long c.args.builder.now c.open_groups-2.new.self c.in_ok-first.first (length job.graph.groups) job.graph.tables c.requires.valid
     c.in_ok-first.ensures.first begun in
     let end = c.in_ok-_end.ensures.first in
@@ -24,21 +25,27 @@ images-requires-clause-room c =
     let old = c.args.builder.now in
     let all : length c.open_groups-2.new.self.tables ≡ c.in_ok-tables.tables + length job.graph.tables =
     ap (λ (d : Draft). length d.tables) begun ∙ length-append (with_groups old (length job.graph.groups)).tables job.graph.tables
-    ∙ ap (λ k. k + length job.graph.tables) (sym (c.in_ok-tables.ensures.first ∙ ap (λ (d : Draft). length d.tables) (c.in_ok-first.ensures.ok ∙ ap (with_groups old) c.groups.ensures))) in
-    have_room job.graph (record { inputs = c.args.inputs; controls = c.args.controls; groups = c.in_ok-first.first; tables = c.in_ok-tables.tables }) job.inputs job.controls
-    c.outputs-outputs.ensures.graph c.requires.reads c.requires.inputs c.requires.controls (omega (arith, long, end, same, fits)) (omega (arith, many, all, tables_fit))
+    ∙ ap (λ k. k + length job.graph.tables) (sym (c.in_ok-tables.ensures.first
+    ∙ ap (λ (d : Draft). length d.tables) (c.in_ok-first.ensures.ok ∙ ap (with_groups old) c.groups.ensures))) in
+    have_room job.graph (record { inputs = c.args.inputs; controls = c.args.controls; groups = c.in_ok-first.first; tables = c.in_ok-tables.tables })
+    job.inputs job.controls
+    c.outputs-outputs.ensures.graph c.requires.reads c.requires.inputs c.requires.controls (omega (arith, long, end, same, fits))
+    (omega (arith, many, all, tables_fit))
 
 pub images-requires-clause-open : goal.images-requires-clause-open
 images-requires-clause-open c =
-    let begun = c.in_ok-_end.ensures.ok ∙ c.in_ok-tables.ensures.ok ∙ ap (λ (d : Draft). with_tables d c.args.job.now.graph.tables) (c.in_ok-first.ensures.ok ∙ ap (with_groups c.args.builder.now) c.groups.ensures) in
-    opened_wait c.args.builder.now c.open_groups-2.new.self c.in_ok-first.first (length c.args.job.now.graph.groups) c.args.job.now.graph.tables c.requires.valid
+    let begun = c.in_ok-_end.ensures.ok ∙ c.in_ok-tables.ensures.ok
+    ∙ ap (λ (d : Draft). with_tables d c.args.job.now.graph.tables) (c.in_ok-first.ensures.ok ∙ ap (with_groups c.args.builder.now) c.groups.ensures) in
+    opened_wait c.args.builder.now c.open_groups-2.new.self c.in_ok-first.first (length c.args.job.now.graph.groups) c.args.job.now.graph.tables
+    c.requires.valid
     c.in_ok-first.ensures.first begun
 
 pub images-requires-clause-tables : goal.images-requires-clause-tables
 images-requires-clause-tables c =
     let g = c.args.job.now.graph in
     let old = c.args.builder.now in
-    let begun = c.in_ok-_end.ensures.ok ∙ c.in_ok-tables.ensures.ok ∙ ap (λ (d : Draft). with_tables d g.tables) (c.in_ok-first.ensures.ok ∙ ap (with_groups old) c.groups.ensures) in
+    let begun = c.in_ok-_end.ensures.ok ∙ c.in_ok-tables.ensures.ok
+    ∙ ap (λ (d : Draft). with_tables d g.tables) (c.in_ok-first.ensures.ok ∙ ap (with_groups old) c.groups.ensures) in
     let first_table : c.in_ok-tables.tables ≡ length old.tables =
     c.in_ok-tables.ensures.first ∙ ap (λ (d : Draft). length d.tables) c.in_ok-first.ensures.ok ∙ ap length (groups_tables old c.groups.result) in
     begun_listed g old c.open_groups-2.new.self c.in_ok-tables.tables (length g.groups) first_table begun
@@ -58,7 +65,8 @@ close_groups-requires c =
     let first_table : c.in_ok-tables.tables ≡ length old.tables =
     c.in_ok-tables.ensures.first ∙ ap (λ (d : Draft). length d.tables) c.in_ok-first.ensures.ok ∙ ap length (groups_tables old c.groups.result) in
     let images = c.in_ok-images.images.items in
-    let begun = c.in_ok-_end.ensures.ok ∙ c.in_ok-tables.ensures.ok ∙ ap (λ (d : Draft). with_tables d g.tables) (c.in_ok-first.ensures.ok ∙ ap (with_groups old) c.groups.ensures) in
+    let begun = c.in_ok-_end.ensures.ok ∙ c.in_ok-tables.ensures.ok
+    ∙ ap (λ (d : Draft). with_tables d g.tables) (c.in_ok-first.ensures.ok ∙ ap (with_groups old) c.groups.ensures) in
     let under : IsUnderWay g o (length g.signals) (begun_with old (length g.groups) g.tables) c.images.new.builder images =
     subst (λ (d : Draft). IsUnderWay g o (length g.signals) d c.images.new.builder images) begun c.in_ok-images.ensures in
     let lists : lists_in c.in_ok-lists.lists.items ≡ definitions_of g (at images) =
@@ -81,7 +89,8 @@ returns c =
     let first_table : c.in_ok-tables.tables ≡ length old.tables =
     c.in_ok-tables.ensures.first ∙ ap (λ (d : Draft). length d.tables) c.in_ok-first.ensures.ok ∙ ap length (groups_tables old c.groups.result) in
     let images = c.in_ok-images.images.items in
-    let begun = c.in_ok-_end.ensures.ok ∙ c.in_ok-tables.ensures.ok ∙ ap (λ (d : Draft). with_tables d g.tables) (c.in_ok-first.ensures.ok ∙ ap (with_groups old) c.groups.ensures) in
+    let begun = c.in_ok-_end.ensures.ok ∙ c.in_ok-tables.ensures.ok
+    ∙ ap (λ (d : Draft). with_tables d g.tables) (c.in_ok-first.ensures.ok ∙ ap (with_groups old) c.groups.ensures) in
     let under : IsUnderWay g o (length g.signals) (begun_with old (length g.groups) g.tables) c.images.new.builder images =
     subst (λ (d : Draft). IsUnderWay g o (length g.signals) d c.images.new.builder images) begun c.in_ok-images.ensures in
     let lists : lists_in c.in_ok-lists.lists.items ≡ definitions_of g (at images) =

@@ -28,4 +28,5 @@ loop-preserved c =
     let put : (c.in_ok-id.id, new) ≡ copy_of g (at images) o c.loop.builder (node g (length images)) =
     subst (λ (xs : List ℕ). (c.in_ok-id.id, new) ≡ copy_of g (at xs) o c.loop.builder (node g (length xs))) c.deref.ensures.value c.in_ok-id.ensures in
     subst (IsUnderWay g o (n + 1) c.args.builder.now new) (sym c.in_ok-push.ensures.items)
-    (one_more g o n c.args.builder.now c.loop.builder images h here c.in_ok-id.id new (put ∙ ap (λ k. copy_of g (at images) o c.loop.builder (node g k)) h.long))
+    (one_more g o n c.args.builder.now c.loop.builder images h here c.in_ok-id.id new
+    (put ∙ ap (λ k. copy_of g (at images) o c.loop.builder (node g k)) h.long))

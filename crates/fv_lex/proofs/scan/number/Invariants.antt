@@ -7,7 +7,11 @@ use Rattle.fv_lex.specs.headline.Pieces.{greatest_literal}
 use Rattle.fv_lex.proofs.scan.number.Given as goal
 
 abbrev pub invariant-loop-rest : goal.invariant-loop-rest
-invariant-loop-rest l = record { same : decimal_after l.n l.rest ≡ value l.digits; small : l.n ≤ greatest_literal; digits_left : list_all is_digit l.rest ≡ true }
+invariant-loop-rest l = record {
+  same : decimal_after l.n l.rest ≡ value l.digits;
+  small : l.n ≤ greatest_literal;
+  digits_left : list_all is_digit l.rest ≡ true;
+}
 
 abbrev pub decreases-loop-rest : goal.decreases-loop-rest
 decreases-loop-rest l = length l.rest

@@ -27,7 +27,8 @@ returns-in-Err-clause-stops g c =
     let made = c.in_ok-made.made in
     let fits : SFits w32 made.sum = search rules in
     let sum = same_sum {n = to_z w32 (of_z w32 made.sum)} (to_z-of_z fits) c.in_ok-made.ensures.sum in
-    make_tells c.args.voices c.args.frames c.args.workers _ sum (state c.args.desk.now) (state c.report_made.new.desk) c.in-Err.ensures.err c.in-Err.ensures.failed
+    make_tells c.args.voices c.args.frames c.args.workers _ sum (state c.args.desk.now) (state c.report_made.new.desk) c.in-Err.ensures.err
+    c.in-Err.ensures.failed
     (λ t sure room. let answered = c.in-Err.ensures.answers t sure room in absurd cc)
 
 pub returns-in-Err-clause-so_far : goal.returns-in-Err-clause-so_far

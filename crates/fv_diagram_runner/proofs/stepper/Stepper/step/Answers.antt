@@ -14,7 +14,8 @@ returns-clause-stands c d C X s =
     let reserved = with_items_is c.self.inside.lists c.reserve.new.lists (c.reserve.auto.lists ∙ c.deref_mut.ensures.len) in
     let lists : numbers_of c.deref_mut-3.result.now ≡ m.lists =
     ap numbers_of (c.deref_mut-3.ensures.value ∙ reserved) ∙ c.in_ok-reserve.ensures.numbers ∙ ap numbers_of c.deref_mut.ensures.value in
-    let regs = registers_same (argument c.args.controls.now) (argument c.args.frame.now) _ _ _ _ _ _ c.deref_mut-2.ensures.value lists c.deref-2.ensures.value in
+    let regs = registers_same (argument c.args.controls.now) (argument c.args.frame.now) _ _ _ _ _ _ c.deref_mut-2.ensures.value lists
+    c.deref-2.ensures.value in
     next_is c.args.self.now m _ d C X c.args.controls.now c.args.frame.now _ _ c.self.view_is c.self.invariant s c.requires.frame
     (with_items_is c.self.inside.cells c.advance.new.cells (c.advance.auto.cells ∙ c.deref_mut-2.ensures.len)
     ∙ c.advance.ensures.cells ∙ ap₂ (λ r p. map (argument r) p) regs c.deref-3.ensures.value)
@@ -28,6 +29,7 @@ returns-clause-answer c d C X e s =
     let reserved = with_items_is c.self.inside.lists c.reserve.new.lists (c.reserve.auto.lists ∙ c.deref_mut.ensures.len) in
     let lists : numbers_of c.deref_mut-3.result.now ≡ m.lists =
     ap numbers_of (c.deref_mut-3.ensures.value ∙ reserved) ∙ c.in_ok-reserve.ensures.numbers ∙ ap numbers_of c.deref_mut.ensures.value in
-    let regs = registers_same (argument c.args.controls.now) (argument c.args.frame.now) _ _ _ _ _ _ c.deref_mut-2.ensures.value lists c.deref-2.ensures.value in
+    let regs = registers_same (argument c.args.controls.now) (argument c.args.frame.now) _ _ _ _ _ _ c.deref_mut-2.ensures.value lists
+    c.deref-2.ensures.value in
     given_is c.args.self.now m _ d C X e c.args.controls.now c.args.frame.now _ c.self.view_is c.self.invariant s c.requires.frame
     (c.advance.ensures.out ∙ ap₂ (λ r p. map (argument r) p) regs c.deref-5.ensures.value)

@@ -50,7 +50,8 @@ module _ (g : Over) (c : After-run_spread g) where
   states = (with_items old.states c.run_spread.new.states).items
 
   cells_are : cells ≡ c.run_spread.new.cells
-  cells_are = with_items_is old.region.cells c.run_spread.new.cells (omega (arith, c.run_spread.auto.cells, ap length c.cells.ensures.value, old.region.cells.ok.0))
+  cells_are = with_items_is old.region.cells c.run_spread.new.cells
+      (omega (arith, c.run_spread.auto.cells, ap length c.cells.ensures.value, old.region.cells.ok.0))
 
   abbrev rows : List (Vec ℤ)
   rows = c.run_spread.new.lists.items

@@ -53,7 +53,8 @@ brings : (k : Start) (v i : ℕ) (ps : List LoopParcel) (p : LoopParcel) (old : 
 brings k v i ps p old more inside is h named seen room =
     let own : List ℕ = own_lanes k.plan.now (source_by (tasks_in k) p.edge) in
     let after : AreSeenOf k own (p.edge / stride (tasks_in k) + 1) (lanes_seen more) =
-    subst (λ (s : Start). AreSeenOf s (own_lanes s.plan.now (source_by (tasks_in s) p.edge)) (p.edge / stride (tasks_in s) + 1) (lanes_seen more)) h.key named in
+    subst (λ (s : Start). AreSeenOf s (own_lanes s.plan.now (source_by (tasks_in s) p.edge)) (p.edge / stride (tasks_in s) + 1) (lanes_seen more))
+    h.key named in
     let mine : AreSeenOf k own (v + 1) (lanes_seen more) = subst (λ (n : ℕ). AreSeenOf k own (n + 1) (lanes_seen more)) h.pair.vector after in
     let lanes : lanes_of_parcels k (take (suc i) ps) ≡ lanes_of_parcels k (take i ps) ++ own = lanes_next k ps i p inside is in
     record {

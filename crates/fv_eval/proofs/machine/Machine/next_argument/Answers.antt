@@ -51,4 +51,5 @@ returns-in-None c =
 
 pub unreachable-requires : goal.unreachable-requires
 unreachable-requires c =
-    is_no_other_application c.args.text.now c.tree-tree.result.now c.args.application c.node.result.now _ c.tree-tree.ensures c.node.ensures.tree c.requires.form c.in_default.not-Apply
+    is_no_other_application c.args.text.now c.tree-tree.result.now c.args.application c.node.result.now _ c.tree-tree.ensures c.node.ensures.tree
+    c.requires.form c.in_default.not-Apply

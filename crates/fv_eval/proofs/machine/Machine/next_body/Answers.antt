@@ -58,4 +58,5 @@ returns c =
 
 pub unreachable-requires : goal.unreachable-requires
 unreachable-requires c =
-    is_no_other_iteration c.args.text.now c.tree-tree.result.now c.args.iteration c.node.result.now _ c.tree-tree.ensures c.node.ensures.tree c.requires.form c.in_default.not-Iteration
+    is_no_other_iteration c.args.text.now c.tree-tree.result.now c.args.iteration c.node.result.now _ c.tree-tree.ensures c.node.ensures.tree
+    c.requires.form c.in_default.not-Iteration

@@ -31,6 +31,7 @@ returns-clause-grew c =
 
 pub returns-clause-took : goal.returns-clause-took
 returns-clause-took c =
-    λ v a h k. parameter_takes c.args.tree.now c.args.self.now c.bind.new.self c.args.node c.args.bound _ c.parameters-count.result c.args.env c.in_ok-inner.inner
+    λ v a h k. parameter_takes c.args.tree.now c.args.self.now c.bind.new.self c.args.node c.args.bound _ c.parameters-count.result c.args.env
+    c.in_ok-inner.inner
     c.in-Some.name c.args.argument v a refl c.parameters-count.ensures c.if-count-more.false c.in-Some.ensures
     c.in_ok-inner.ensures.ok.0 c.in_ok-inner.ensures.ok.1 h k

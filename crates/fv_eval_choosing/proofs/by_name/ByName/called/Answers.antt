@@ -25,5 +25,6 @@ returns c =
     let high =
     IsPartitionPoint-from_clause (λ (d : Defined). nat_le d.name name) ys n c.partition_point-count.ensures.partitioned
     (IsPartitionedBy-leb (λ (d : Defined). d.name) ys name up_rest) (λ x r q k. search rules) in
-    ap (take n) rest ∙ sym (keyed_from (λ (d : Defined). d.name) name xs ys a n c.partition_point-from.ensures.bound rest c.partition_point-count.ensures.bound low high)
+    ap (take n) rest ∙ sym (keyed_from (λ (d : Defined). d.name) name xs ys a n c.partition_point-from.ensures.bound rest
+    c.partition_point-count.ensures.bound low high)
     ∙ ap (filter (is_called name)) (c.as_slice-all.ensures.value ∙ c.self.view_is)

@@ -9,4 +9,5 @@ invariant_of-result c = IsNonDecreasingBy-from_sort_by_key (λ (d : Defined). d.
 
 pub returns-clause-same : goal.returns-clause-same
 returns-clause-same c = λ n.
-    same_keyed (λ (d : Defined). d.name) (record { name = n; node = 0 }) _ _ (c.in_ok-sort_by_key.ensures.stable (λ (d : Defined). d.name) (answers_always _ _ _ (λ f a r g h. search rules)))
+    same_keyed (λ (d : Defined). d.name) (record { name = n; node = 0 }) _ _
+    (c.in_ok-sort_by_key.ensures.stable (λ (d : Defined). d.name) (answers_always _ _ _ (λ f a r g h. search rules)))

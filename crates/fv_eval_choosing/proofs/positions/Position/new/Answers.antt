@@ -16,7 +16,8 @@ returns c =
     let rules : List Rule = rules_at p ids in
     let free = c.sort_out.new.free in
     let sorts : Sorts rules c.args.path (length rules) free c.in_ok-found.found.items =
-    subst (λ n. Sorts rules c.args.path n free c.in_ok-found.found.items) (sym (length-map ids (λ (i : TreeId). rule_of (tree_in p i)))) c.in_ok-found.ensures in
+    subst (λ n. Sorts rules c.args.path n free c.in_ok-found.found.items) (sym (length-map ids (λ (i : TreeId). rule_of (tree_in p i))))
+    c.in_ok-found.ensures in
     record {
       sorts = sorts_sorted rules c.args.path (length rules) free c.in_ok-found.found.items c.in_ok-wants.wants c.in_ok-wants.ensures sorts;
       rows = c.in_ok-rows.ensures;

@@ -25,5 +25,6 @@ returns c =
     let high =
     IsPartitionPoint-from_clause (λ (w : Wanted). nat_le w.key key) ys n c.partition_point-count.ensures.partitioned
     (IsPartitionedBy-leb (λ (w : Wanted). w.key) ys key up_rest) (λ x r q k. search rules) in
-    ap (take n) rest ∙ sym (keyed_from (λ (w : Wanted). w.key) key xs ys a n c.partition_point-from.ensures.bound rest c.partition_point-count.ensures.bound low high)
+    ap (take n) rest ∙ sym (keyed_from (λ (w : Wanted). w.key) key xs ys a n c.partition_point-from.ensures.bound rest
+    c.partition_point-count.ensures.bound low high)
     ∙ ap (filter (is_for key)) (c.as_slice-all.ensures.value ∙ c.self.view_is)

@@ -9,4 +9,5 @@ invariant_of-result c = IsNonDecreasingBy-from_sort_by_key (λ (w : Wanted). w.k
 
 pub returns : goal.returns
 returns c = λ n.
-    same_keyed (λ (w : Wanted). w.key) (record { key = n; rule = 0 }) _ _ (c.in_ok-sort_by_key.ensures.stable (λ (w : Wanted). w.key) (answers_always _ _ _ (λ f a r g h. search rules)))
+    same_keyed (λ (w : Wanted). w.key) (record { key = n; rule = 0 }) _ _
+    (c.in_ok-sort_by_key.ensures.stable (λ (w : Wanted). w.key) (answers_always _ _ _ (λ f a r g h. search rules)))

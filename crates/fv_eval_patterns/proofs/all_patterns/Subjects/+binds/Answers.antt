@@ -12,7 +12,8 @@ binds-requires-2 t c =
     let p = c.args.self.now.tree.now in
     let old = c.args.diagrams.now in
     let mid = c.binds.new.diagrams in
-    let halves : AreHalves p old c.args.pair c.in-Some-2.halves = subst (λ o. IfSome o (AreHalves p old c.args.pair)) c.in-Some-2.is c.in_ok-halves.ensures.halves in
+    let halves : AreHalves p old c.args.pair c.in-Some-2.halves =
+    subst (λ o. IfSome o (AreHalves p old c.args.pair)) c.in-Some-2.is c.in_ok-halves.ensures.halves in
     let pair : IsPair p mid c.in-Some-2.halves.1 = pair_stays p old mid c.in-Some-2.halves.1 c.in_ok-binds.ensures.adds halves.second in
     search rules
 

@@ -7,7 +7,8 @@ use Rattle.fv_eval_patterns.proofs.all_patterns.Subjects.bind_all.Goals as goal
 pub loop-i-init : goal.loop-i-init
 loop-i-init c = record {
   recalls = c.requires.recalls;
-  matches = patterns_begin c.args.self.now.tree.now c.args.patterns.now c.args.self.now.values.now c.args.diagrams.now c.args.numbers.now c.args.found.now.items c.requires.known;
+  matches = patterns_begin c.args.self.now.tree.now c.args.patterns.now c.args.self.now.values.now c.args.diagrams.now c.args.numbers.now
+      c.args.found.now.items c.requires.known;
 }
 
 pub loop-i-preserved : goal.loop-i-preserved
@@ -16,7 +17,8 @@ loop-i-preserved c =
     record {
       recalls = c.in_ok-matches_one.ensures.recalls;
       matches = patterns_go_on c.loop-i.invariant.matches (next_of c.loop-i-test.true c.index-patterns-i.is c.if-i-values.false c.index-values-i.is)
-          (tried_to c.args.self.now.tree.now c.index-patterns-i.result c.index-values-i.result _ _ c.loop-i.diagrams new.diagrams c.loop-i.found.items new.found.items
+          (tried_to c.args.self.now.tree.now c.index-patterns-i.result c.index-values-i.result _ _ c.loop-i.diagrams new.diagrams c.loop-i.found.items
+          new.found.items
           c.if-not-branch.false c.in_ok-matches_one.ensures.adds c.in_ok-matches_one.ensures.matched) c.in_ok-matches_one.ensures.known;
     }
 
@@ -43,4 +45,5 @@ returns-then-not-branch-clause-matched c =
 
 pub returns-then-i-values-clause-matched : goal.returns-then-i-values-clause-matched
 returns-then-i-values-clause-matched c =
-    patterns_stop c.index-patterns-i.result c.loop-i.invariant.matches c.loop-i-test.true (slice_get_past c.args.self.now.values.now c.loop-i.i c.if-i-values.true)
+    patterns_stop c.index-patterns-i.result c.loop-i.invariant.matches c.loop-i-test.true
+    (slice_get_past c.args.self.now.values.now c.loop-i.i c.if-i-values.true)

@@ -28,7 +28,8 @@ loop-i-preserved c =
     let q = c.others.inside.words.ok.0 in
     let l : i < length xs = omega (arith, o, inv.long, c.loop-i-test.true) in
     let m : i < length ys = omega (arith, q, inv.short, c.loop-i-test.true) in
-    let e = ap₂ bit_and (c.index-word.ensures ∙ get_or_default xs i c.index-word.result.now 0 l) (c.index.ensures ∙ get_or_default ys i c.index.result.now 0 m) in
+    let e = ap₂ bit_and (c.index-word.ensures ∙ get_or_default xs i c.index-word.result.now 0 l)
+    (c.index.ensures ∙ get_or_default ys i c.index.result.now 0 m) in
     record {
       long = inv.long;
       short = inv.short;

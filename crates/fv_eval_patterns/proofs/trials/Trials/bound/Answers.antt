@@ -14,6 +14,7 @@ returns-in-Binds c =
     if_some c.range.result (λ r. r.now ≡ take c.in-Binds.count (drop c.in-Binds.from m.bindings))
     (λ r. (p : Parsed) (a : Arena) → Recalls p a m → Binds p a x r.now)
     (λ r e p a h.
-    let tells = at_slot p a m c.self.inside.slots.items c.in_ok-i.i t x (ap (λ (n : Remembered). n.trials) c.self.view_is) c.in_ok-i.ensures c.index-trial.ensures
+    let tells = at_slot p a m c.self.inside.slots.items c.in_ok-i.i t x (ap (λ (n : Remembered). n.trials) c.self.view_is) c.in_ok-i.ensures
+    c.index-trial.ensures
     (c.is_same.ensures c.if-not-is_same.false) h in
     subst (Binds p a x) (sym e) (subst (λ o. Tells p a m.bindings o x) c.in-Binds.is tells).2) c.range.ensures

@@ -10,6 +10,7 @@ pub widen-preserved : goal.widen-preserved
 widen-preserved c = λ p a h.
     let old = c.widen.invariant p a h in
     record {
-      trials = told_push p a c.widen.self-inside.slots.items c.push.new.self.items c.widen.self-inside.bindings.items _ c.in_ok-push.ensures.items old.trials tt;
+      trials = told_push p a c.widen.self-inside.slots.items c.push.new.self.items c.widen.self-inside.bindings.items _ c.in_ok-push.ensures.items
+          old.trials tt;
       survey = old.survey;
     }

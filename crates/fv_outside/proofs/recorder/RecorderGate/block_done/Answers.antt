@@ -17,4 +17,5 @@ returns c =
       lines_start = let e = ap length ls in let f = c.part_behind-2.ensures in omega arith;
       lines_end = let e = ap length ls in let f = c.part_behind-2.ensures in omega arith;
     } in
-    rw (← c.self.view_is, tells, rs, ls, bs) (recorded_more k.blocks.items k.reads.items c.args.reads.now k.lines.items c.args.lines.now k.most_blocks k.most_lines b c.self.invariant.0 last (search rules) (search rules) (search rules))
+    rw (← c.self.view_is, tells, rs, ls, bs) (recorded_more k.blocks.items k.reads.items c.args.reads.now k.lines.items c.args.lines.now k.most_blocks
+    k.most_lines b c.self.invariant.0 last (search rules) (search rules) (search rules))

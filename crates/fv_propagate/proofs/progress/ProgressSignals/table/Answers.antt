@@ -3,7 +3,8 @@ use Rattle.fv_propagate.proofs.Kept.{grown_tabled}
 use Rattle.fv_propagate.proofs.progress.ProgressSignals.table.Goals as goal
 
 pub returns-clause-wire : goal.returns-clause-wire
-returns-clause-wire c = (grown_tabled c.args.writes c.args.values.now c.args.ins.now c.args.self.now c.put_table.new.self c.in_ok-id.id c.in_ok-id.ensures).there
+returns-clause-wire c = (grown_tabled c.args.writes c.args.values.now c.args.ins.now c.args.self.now c.put_table.new.self c.in_ok-id.id
+    c.in_ok-id.ensures).there
 
 pub returns-clause-keeps : goal.returns-clause-keeps
 returns-clause-keeps c =
@@ -11,4 +12,5 @@ returns-clause-keeps c =
     λ w h. omega (arith, h, longer)
 
 pub returns-clause-fed : goal.returns-clause-fed
-returns-clause-fed c = ap (map (λ f. f.count)) (grown_tabled c.args.writes c.args.values.now c.args.ins.now c.args.self.now c.put_table.new.self c.in_ok-id.id c.in_ok-id.ensures).same
+returns-clause-fed c = ap (map (λ f. f.count)) (grown_tabled c.args.writes c.args.values.now c.args.ins.now c.args.self.now c.put_table.new.self
+    c.in_ok-id.id c.in_ok-id.ensures).same

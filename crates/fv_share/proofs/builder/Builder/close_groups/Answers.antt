@@ -51,4 +51,5 @@ returns-clause-shut c =
     ap (λ xs. with_all_members at.self at.group (lists_in xs)) (sym empty) ∙ at.invariant.all in
     let whole : IsDraft c.args.self.now = subst IsDraft c.self.view_is c.self.invariant in
     let law = (groups_stay c.args.self.now).1 whole.marked c.args.first lists c.requires.pending in
-    λ g l. subst (λ (d : Draft). IsShut d (c.args.first + g)) (sym all) (law.shut g (omega (arith, l, length-map c.args.lists.items (λ (row : Vec ℕ Global). row.items))))
+    λ g l. subst (λ (d : Draft). IsShut d (c.args.first + g)) (sym all)
+    (law.shut g (omega (arith, l, length-map c.args.lists.items (λ (row : Vec ℕ Global). row.items))))

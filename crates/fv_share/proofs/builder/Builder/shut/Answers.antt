@@ -8,7 +8,12 @@ use Rattle.fv_share.proofs.builder.Builder.shut.Goals as goal
 pub returns-clause-all : goal.returns-clause-all
 returns-clause-all c =
     ap (λ (gs : List (List ℕ)). let d : Draft =
-    record { signals = c.self.inside.signals.keys; groups = gs; closed = slice_set c.self.inside.closed.items c.args.group true; tables = lists_in c.self.inside.tables.items } in d)
+    record {
+      signals = c.self.inside.signals.keys;
+      groups = gs;
+      closed = slice_set c.self.inside.closed.items c.args.group true;
+      tables = lists_in c.self.inside.tables.items;
+    } in d)
     (map-set (λ (row : Vec ℕ Global). row.items) c.self.inside.groups.items c.args.group c.args.members)
     ∙ ap (λ (d : Draft). with_members d c.args.group c.args.members.items) c.self.view_is
 

@@ -15,4 +15,5 @@ returns-then-place-len-clause-there c =
     let long : length (lists_in c.deref.result.now) ≡ length c.deref.result.now = length-map c.deref.result.now (λ (row : Vec ℤ Global). row.items) in
     let within : position_or_len (same_list T) d.tables < length d.tables =
     omega (arith, c.if-place-len.true, c.len.ensures, c.deref.ensures.len, place, long, ap length here) in
-    ap (λ t. get_or d.tables t []) place ∙ sym (lists_equal T (get_or d.tables (position_or_len (same_list T) d.tables) []) (passes_at_first (same_list T) d.tables [] within))
+    ap (λ t. get_or d.tables t []) place ∙ sym (lists_equal T (get_or d.tables (position_or_len (same_list T) d.tables) [])
+    (passes_at_first (same_list T) d.tables [] within))
