@@ -11,7 +11,7 @@ ghost use Rattle.fv_au.specs.Reading.{IsAu};
 ghost use Rattle.fv_au.specs.Stopping.{IsAuHead, AuStops};
 
 use crate::head::AuHead;
-use crate::judging::judge;
+use crate::partial_head::judge;
 use crate::refusal::AuRefusal;
 use fv_outside::{Desk, Role, fill, skip};
 

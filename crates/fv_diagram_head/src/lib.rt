@@ -4,7 +4,7 @@
 
 mod fixed;
 mod head;
-mod running;
+mod table_numbers;
 
 pub use head::{Pieces, head_and_rest, is_head};
-pub use running::{first_of, numbers};
+pub use table_numbers::{first_of, numbers};

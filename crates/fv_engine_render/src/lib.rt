@@ -7,7 +7,7 @@ mod controls;
 mod cut;
 mod engines;
 mod laws;
-mod rendering;
+mod source;
 mod stream;
 mod tape;
 
@@ -15,5 +15,5 @@ pub use blocks::{Ran, RunSizes};
 pub use controls::initial_of;
 pub use cut::next_block;
 pub use laws::{joined_is_graph, runs_have_loops};
-pub use rendering::{Source, compile};
+pub use source::{Source, compile};
 pub use tape::{Played, Ready, make_ready, make_ready_graph, render_tape};

@@ -16,7 +16,7 @@ ghost use Rattle.fv_engine_render.specs.Stops.{HasEnded, IsSetFor, IsSetToPlay};
 use crate::blocks::{PlanSizes, Ran, RunSizes};
 use crate::controls::{initial_of, spans_fit};
 use crate::engines::{engine, plan_of};
-use crate::rendering::{Source, compile};
+use crate::source::{Source, compile};
 use crate::stream::play_tape;
 use fv_control::Change;
 use fv_diagram::{ControlInfo, answers_each, answers_wide};

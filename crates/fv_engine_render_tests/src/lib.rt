@@ -2,9 +2,9 @@
 #![tactic(auto)]
 
 #[cfg(test)]
-mod memory;
+mod cases;
 #[cfg(test)]
-mod playing;
+mod memory;
 #[cfg(test)]
 mod rows;
 #[cfg(test)]

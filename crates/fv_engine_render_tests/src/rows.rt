@@ -1,6 +1,6 @@
 // Rows of programs.
 
-use crate::playing::{Case, numbers_of, rendered, stepped};
+use crate::cases::{Case, numbers_of, rendered, stepped};
 use fv_num::Span;
 use fv_outside::{FreeGate, Line, Reads, Recorder, Task};
 use std::process::Abort;

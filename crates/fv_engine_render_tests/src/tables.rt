@@ -1,6 +1,6 @@
 // Programs with waveforms and tables.
 
-use crate::playing::{Case, rendered_by};
+use crate::cases::{Case, rendered_by};
 use fv_outside::FreeGate;
 use std::alloc::Global;
 use std::marker::Sync;

@@ -2,17 +2,17 @@
 //! it begins.
 #![tactic(auto)]
 
-mod collecting;
-mod dealing;
+mod cell_swap;
 mod entries;
+mod handed_lanes;
 mod laws;
+mod returned_lanes;
 mod room;
 mod scratch;
-mod swapping;
 
-pub use collecting::collect;
-pub use dealing::deal;
+pub use cell_swap::swap_cells;
 pub use entries::entries_of;
+pub use handed_lanes::deal;
 pub use laws::dealt_rooms_enter;
+pub use returned_lanes::collect;
 pub use room::take_room;
-pub use swapping::swap_cells;

@@ -9,7 +9,7 @@ use Rattle.fv_parse.specs.Trees.{Parsed, size_of, tree_in}
 use Rattle.fv_parse.specs.TreeId.{TreeId}
 use Rattle.fv_eval_scopes.specs.declared.value.Value as code_value
 use Rattle.fv_eval_scopes.specs.declared.value.Binding as code_binding
-use Rattle.fv_eval_choosing.specs.declared.choosing.RuleAt.{RuleAt}
+use Rattle.fv_eval_choosing.specs.declared.first_rule.RuleAt.{RuleAt}
 use Rattle.fv_eval_scopes.specs.declared.memo.Known.{Known}
 use Rattle.fv_rules.specs.headline.Values.{Rule, Value, rule_of}
 use Rattle.fv_rules.specs.headline.Matching.{all_matched, or_next, chosen}

@@ -4,9 +4,9 @@ use Rattle.fv_parse_grammar.specs.headline.Tree.{Tree}
 use Rattle.fv_parse.specs.Trees.{Parsed, size_of, tree_in}
 use Rattle.fv_parse.specs.TreeId.{TreeId}
 use Rattle.fv_eval_choosing.specs.declared.by_name.Defined.{Defined}
-use Rattle.fv_eval_choosing.specs.declared.choosing.RuleAt.{RuleAt}
-use Rattle.fv_eval_choosing.specs.declared.choosing.Rules.{Rules}
-use Rattle.fv_eval_choosing.specs.declared.choosing.Rules.TheVariants as rules
+use Rattle.fv_eval_choosing.specs.declared.first_rule.RuleAt.{RuleAt}
+use Rattle.fv_eval_choosing.specs.declared.first_rule.Rules.{Rules}
+use Rattle.fv_eval_choosing.specs.declared.first_rule.Rules.TheVariants as rules
 use Rattle.fv_diagram.specs.Arena.{Arena}
 use Rattle.fv_eval_scopes.specs.declared.value.Value as code_value
 use Rattle.fv_eval_scopes.specs.declared.value.Binding as code_binding

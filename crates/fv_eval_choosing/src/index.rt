@@ -8,7 +8,7 @@ ghost use Rattle.fv_eval_patterns.specs.Patterns.{IsValid};
 ghost use Rattle.fv_eval_choosing.specs.Chosen.{nodes_of};
 ghost use Rattle.fv_eval_choosing.specs.Leaving.{IsIndex, IsOut, Knows, Leaves};
 
-use crate::choosing::{Rules, patterns_of};
+use crate::first_rule::{Rules, patterns_of};
 use crate::paths::Path;
 use crate::positions::Position;
 use fv_diagram::Diagrams;

@@ -3,7 +3,7 @@
 
 mod around;
 mod by_name;
-mod choosing;
+mod first_rule;
 mod index;
 mod lookup;
 mod paths;

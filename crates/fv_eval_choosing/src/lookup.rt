@@ -30,7 +30,7 @@ const ON_FOOT: u64 = 4;
 
 /// Where a look-up may go on from an environment: to the one around it, or by a shortcut, which may lead nowhere.
 #[derive(Clone, Copy)]
-struct Step {
+struct Onward {
     at: u64,
     outer: u64,
     direct: u64,
@@ -205,7 +205,7 @@ impl<'a> Definitions<'a> {
                 return Meaning::Unknown;
             }
             let direct = shortcuts.slots.outward(name, at, steps);
-            let way = Step { at, outer, direct };
+            let way = Onward { at, outer, direct };
             at = self.next(scopes, &mut shortcuts.around, &way, name, steps);
             steps = steps.saturating_add(1);
             mark = shortcuts.slots.mark(name, mark, at, steps);
@@ -215,7 +215,7 @@ impl<'a> Definitions<'a> {
 
     // The next environment to look at behind one that has nothing of a name: by a shortcut that leads outward, or else from
     // the environment around it on, and after a few steps over all that has nothing of the name.
-    fn next(&self, scopes: &Scopes, around: &mut Around, way: &Step, name: u64, steps: u64) -> u64
+    fn next(&self, scopes: &Scopes, around: &mut Around, way: &Onward, name: u64, steps: u64) -> u64
         requires { way.now.outer < way.now.at }
         ensures kept { AreAround self.now scopes.now.scopes around.old → AreAround self.now scopes.now.scopes around.new }
         ensures skips { AreAround self.now scopes.now.scopes around.old → SkipsTo self.now scopes.now.scopes name way.now.at way.now.outer

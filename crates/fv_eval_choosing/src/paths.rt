@@ -11,7 +11,7 @@ ghost use Rattle.fv_eval_patterns.specs.Patterns.{ArePartsOf, are_parts, both_pa
 ghost use Rattle.fv_eval_choosing.specs.Positions.{both_of, both_without, composition_key, diagram_key, diagram_part};
 ghost use Rattle.fv_eval_choosing.specs.Positions.{number_key, operator_key, pattern_part, side_of, want_at, wanted};
 
-use crate::choosing::patterns_of;
+use crate::first_rule::patterns_of;
 use fv_diagram::{DiagramId, Diagrams, Node};
 use fv_eval_scopes::Numbers;
 use fv_parse::{Tree, TreeId, TreeNode};

@@ -13,7 +13,7 @@ ghost use Rattle.fv_eval_patterns.specs.Bits.{has};
 ghost use Rattle.fv_eval_choosing.specs.Positions.{HasBoth, Sorts, is_for, key_at, permits, want_at};
 ghost use Rattle.fv_eval_choosing.specs.Leaving.{Knows, Narrows};
 
-use crate::choosing::Rules;
+use crate::first_rule::Rules;
 use crate::paths::{COMPOSITIONS, Path, Side, diagram_key, diagram_part, want_at};
 use crate::wants::{Wanted, Wants};
 use fv_diagram::Diagrams;

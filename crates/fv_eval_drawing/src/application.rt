@@ -6,7 +6,7 @@ ghost use Rattle.fv_rules.specs.headline.Rules.{all_outputs, fed, takes_the_righ
 ghost use Rattle.fv_eval_drawing.specs.Makes.{AddsDiagrams, AreThere, Extends, MakesValue, trees_of};
 ghost use Rattle.fv_eval_drawing.specs.Lists.{Fills};
 
-use crate::drawing::Drawing;
+use crate::diagrams::Drawing;
 use crate::lists::Link;
 use fv_diagram::{DiagramId, Node, Prim};
 use fv_rules::{EvalRefusal, too_many_to_count};

@@ -3,11 +3,11 @@
 #![tactic(auto)]
 
 mod application;
-mod drawing;
+mod diagrams;
 mod lists;
 mod pairs;
 mod tables;
 
-pub use drawing::Drawing;
+pub use diagrams::Drawing;
 pub use lists::Link;
 pub use pairs::primitive_of;

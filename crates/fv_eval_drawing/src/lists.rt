@@ -8,7 +8,7 @@ ghost use Rattle.fv_rules.specs.headline.Rules.{from_left, gathered};
 ghost use Rattle.fv_eval_drawing.specs.Makes.{AreThere, Extends, Makes, MakesValue, trees_of};
 ghost use Rattle.fv_eval_drawing.specs.Lists.{all_from_left, all_from_right, linked};
 
-use crate::drawing::Drawing;
+use crate::diagrams::Drawing;
 use fv_diagram::{DiagramId, Node, Prim};
 use fv_num::Op;
 use fv_parse_grammar::Iteration;

@@ -9,7 +9,7 @@ ghost use Rattle.fv_rules.specs.headline.Steps.{put};
 ghost use Rattle.fv_rules.specs.headline.Rules.{bind_all, joined, operated, primitive_of};
 ghost use Rattle.fv_eval_drawing.specs.Makes.{Extends, Makes};
 
-use crate::drawing::Drawing;
+use crate::diagrams::Drawing;
 use fv_diagram::{DiagramId, Node, Prim};
 use fv_num::Op;
 use fv_parse_grammar::{Operator, Primitive};

@@ -13,7 +13,7 @@ ghost use Rattle.fv_eval_drawing.specs.Lists.{all_from_right, linked};
 ghost use Rattle.fv_eval_drawing.specs.Makes.{AddsDiagrams, AreThere, Extends, Makes, trees_of};
 ghost use Rattle.fv_eval_drawing.specs.inner.Tables.{GrowsBy, PutsTable, as_table, table_primitive, writes_of};
 
-use crate::drawing::Drawing;
+use crate::diagrams::Drawing;
 use fv_base::limits::TABLE_LIMIT;
 use fv_diagram::{DiagramId, Node, Prim};
 use fv_diagram_head::{Pieces, first_of, head_and_rest, is_head, numbers};

@@ -20,7 +20,7 @@ use Rattle.std.specs.Bool.{MatchBool}
 use Rattle.fv_eval_scopes.proofs.lemmas.Added.{adds_keeps, adds_longer, adds_on}
 use Rattle.fv_eval_patterns.proofs.lemmas.LongPatterns.{binds_grow}
 use Rattle.fv_eval_scopes.proofs.lemmas.Grown.{bindings_grow}
-use Rattle.fv_eval_patterns.specs.declared.matching.Pair.{Pair}
+use Rattle.fv_eval_patterns.specs.declared.value_patterns.Pair.{Pair}
 use Rattle.fv_eval_patterns.specs.Patterns.{IsPair, ShowsMatched, with_diagrams}
 use Rattle.fv_eval_patterns.specs.Trials.{AddsBound, AreHalves, Binds, Misses}
 use Rattle.fv_eval_patterns.proofs.lemmas.Matched.{adds_grow}

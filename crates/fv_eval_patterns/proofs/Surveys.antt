@@ -17,9 +17,9 @@ use Rattle.fv_eval_patterns.specs.Bits.{has}
 use Rattle.fv_eval_patterns.proofs.BitSets.{none_has}
 use Rattle.fv_eval_patterns.specs.declared.shapes.Shape.{Shape}
 use Rattle.fv_eval_patterns.specs.declared.shapes.Shape.TheVariants.{Number, Plain, Composed}
-use Rattle.fv_eval_patterns.specs.declared.survey.Step.{Step}
+use Rattle.fv_eval_patterns.specs.declared.survey.ShapeRow.{ShapeRow}
 use Rattle.fv_eval_patterns.specs.Surveyed.{Surveyed}
-use Rattle.fv_eval_patterns.specs.Shapes.{Denies, IsRowed, IsShape, IsStep, IsSurvey, HasNoOther, IsSeen, Never, Within, marked}
+use Rattle.fv_eval_patterns.specs.Shapes.{Denies, IsRowed, IsShape, IsShapeRow, IsSurvey, HasNoOther, IsSeen, Never, Within, marked}
 
 -- ---- where diagrams were added
 
@@ -64,7 +64,7 @@ within_more rows more Plain w = w
 within_more rows more (Composed o l r) w =
     let e = length-append rows more in let wl = w.0 in let wr = w.1 in (omega (arith, e, wl), omega (arith, e, wr))
 
-step_more : (p : Parsed) (rows more : List (List ℕ)) (f : Step) → IsStep p rows f → IsStep p (rows ++ more) f
+step_more : (p : Parsed) (rows more : List (List ℕ)) (f : ShapeRow) → IsShapeRow p rows f → IsShapeRow p (rows ++ more) f
 step_more p rows more f h =
     let e = length-append rows more in
     let l = h.there in
@@ -142,7 +142,7 @@ marked_past rows r x l = sym (ap (λ w. has w x) (get_or_past rows r [] l) ∙ n
 -- a row that is among the rows now tells of a shape
 pub new_step : (p : Parsed) (rows now more : List (List ℕ)) (s : Shape) (made : List ℕ) (r : ℕ) → now ≡ rows ++ more → Within (length rows) s
     → (r < length now) × (get_or now r [] ≡ made) → ((x : ℕ) → has made x ≡ false → (d : Diagram) → IsShape p rows s d → Never p x d)
-    → IsStep p now (record { shape = s; row = r })
+    → IsShapeRow p now (record { shape = s; row = r })
 new_step p rows now more s made r e within is never = record {
   within = subst (λ (us : List (List ℕ)). Within (length us) s) (sym e) (within_more rows more s within);
   there = is.0;
@@ -166,7 +166,7 @@ shape_more p rows more (Composed o l r) d w h = record {
 
 -- the row of a shape tells of a diagram that has it
 pub step_rows : (p : Parsed) (a : Arena) (rows now more : List (List ℕ)) (i : ℕ) (s : Shape) (r : ℕ) → now ≡ rows ++ more → IsSeen p a rows i s
-    → IsStep p now (record { shape = s; row = r }) → IsRowed p a now i r
+    → IsShapeRow p now (record { shape = s; row = r }) → IsRowed p a now i r
 step_rows p a rows now more i s r e seen step = record {
   diagram = seen.diagram;
   there = step.there;
@@ -209,19 +209,19 @@ put_there {A} old xs i x l h j y e = go (cases_eq j i)
     go (inr apart) =
         inl (h j y (slice_get_read xs (length xs) j (Some y) refl within (at ∙ get_or-set_other xs i j (Some x) (Some y) apart)))
 
-pub steps_put : (p : Parsed) (a : Arena) (rows : List (List ℕ)) (ds : List (Option ℕ)) (old new : List (Option Step)) (i : ℕ) (f : Step)
-    → HasNoOther old new i f → IsSurvey p a (record { rows = rows; steps = old; diagrams = ds }) → IsStep p rows f
+pub steps_put : (p : Parsed) (a : Arena) (rows : List (List ℕ)) (ds : List (Option ℕ)) (old new : List (Option ShapeRow)) (i : ℕ) (f : ShapeRow)
+    → HasNoOther old new i f → IsSurvey p a (record { rows = rows; steps = old; diagrams = ds }) → IsShapeRow p rows f
     → IsSurvey p a (record { rows = rows; steps = new; diagrams = ds })
 steps_put p a rows ds old new i f put h is = record {
   steps = λ j g e. go j g (put j g e);
   diagrams = h.diagrams;
 }
   where
-    go : (j : ℕ) (g : Step) → (slice_get old j ≡ Some (Some g)) ⊎ ((j ≡ i) × (g ≡ f)) → IsStep p rows g
+    go : (j : ℕ) (g : ShapeRow) → (slice_get old j ≡ Some (Some g)) ⊎ ((j ≡ i) × (g ≡ f)) → IsShapeRow p rows g
     go j g (inl e) = h.steps j g e
-    go j g (inr e) = subst (IsStep p rows) (sym e.1) is
+    go j g (inr e) = subst (IsShapeRow p rows) (sym e.1) is
 
-pub diagrams_put : (p : Parsed) (a : Arena) (rows : List (List ℕ)) (fs : List (Option Step)) (old new : List (Option ℕ)) (i r : ℕ)
+pub diagrams_put : (p : Parsed) (a : Arena) (rows : List (List ℕ)) (fs : List (Option ShapeRow)) (old new : List (Option ℕ)) (i r : ℕ)
     → HasNoOther old new i r → IsSurvey p a (record { rows = rows; steps = fs; diagrams = old }) → IsRowed p a rows i r
     → IsSurvey p a (record { rows = rows; steps = fs; diagrams = new })
 diagrams_put p a rows fs old new i r put h is = record {

@@ -14,7 +14,7 @@ use Rattle.fv_eval_patterns.specs.declared.shapes.Composition.{Composition}
 use Rattle.fv_eval_patterns.specs.declared.shapes.Composition.TheVariants as by
 use Rattle.fv_eval_patterns.specs.declared.shapes.Shape.{Shape}
 use Rattle.fv_eval_patterns.specs.declared.shapes.Shape.TheVariants.{Number, Plain, Composed}
-use Rattle.fv_eval_patterns.specs.declared.survey.Step.{Step}
+use Rattle.fv_eval_patterns.specs.declared.survey.ShapeRow.{ShapeRow}
 use Rattle.fv_eval_patterns.specs.declared.survey.Look.{Look}
 use Rattle.fv_eval_patterns.specs.declared.survey.Look.TheVariants.{Seen, Part}
 use Rattle.fv_eval_patterns.specs.Surveyed.{Surveyed}
@@ -76,7 +76,7 @@ Within n (Composed o l r) = (l < n) × (r < n)
 Within n s = Unit {0}
 
 -- a row tells of all diagrams of a shape
-pub record IsStep (p : Parsed) (rows : List (List ℕ)) (s : Step) : Type 0 where
+pub record IsShapeRow (p : Parsed) (rows : List (List ℕ)) (s : ShapeRow) : Type 0 where
   pub within : Within (length rows) s.shape
   pub there : s.row < length rows
   pub tells : (d : Diagram) → IsShape p rows s.shape d → Denies p rows s.row d
@@ -89,7 +89,7 @@ pub record IsRowed (p : Parsed) (a : Arena) (rows : List (List ℕ)) (i r : ℕ)
 
 -- What a survey found is true of a text and an arena.
 pub record IsSurvey (p : Parsed) (a : Arena) (s : Surveyed) : Type 0 where
-  pub steps : (i : ℕ) (f : Step) → slice_get s.steps i ≡ Some (Some f) → IsStep p s.rows f
+  pub steps : (i : ℕ) (f : ShapeRow) → slice_get s.steps i ≡ Some (Some f) → IsShapeRow p s.rows f
   pub diagrams : (i r : ℕ) → slice_get s.diagrams i ≡ Some (Some r) → IsRowed p a s.rows i r
 
 -- diagram i is there, and has a shape

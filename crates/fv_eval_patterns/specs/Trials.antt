@@ -8,14 +8,14 @@ use Rattle.fv_rules.specs.headline.Values.{Flat}
 use Rattle.fv_rules.specs.headline.Matching.{Bindings, and_then, matched}
 use Rattle.fv_eval_scopes.specs.declared.value.Binding.{Binding}
 use Rattle.fv_eval_scopes.specs.Shows.{World, ShowsBindings}
-use Rattle.fv_eval_patterns.specs.declared.matching.Pair.{Pair}
+use Rattle.fv_eval_patterns.specs.declared.value_patterns.Pair.{Pair}
 use Rattle.fv_eval_patterns.specs.declared.trials.Outcome.{Outcome}
 use Rattle.fv_eval_patterns.specs.declared.trials.Outcome.TheVariants.{Never, Maybe, Binds as Keeps}
 use Rattle.fv_eval_patterns.specs.declared.trials.Trial.{Trial}
 use Rattle.fv_eval_patterns.specs.Remembered.{Remembered}
 use Rattle.fv_eval_patterns.specs.Shapes.{IsSurvey}
-use Rattle.fv_eval_patterns.specs.declared.trying.Task.{Task}
-use Rattle.fv_eval_patterns.specs.declared.trying.Task.TheVariants.{Try, Note}
+use Rattle.fv_eval_patterns.specs.declared.long_patterns.Task.{Task}
+use Rattle.fv_eval_patterns.specs.declared.long_patterns.Task.TheVariants.{Try, Note}
 use Rattle.fv_eval_patterns.specs.Patterns.{IsPair, Refuses}
 
 -- whether a pattern may match a diagram: where that is denied, it does not

@@ -2,17 +2,17 @@
 #![tactic(auto)]
 
 mod all_patterns;
-mod binding;
 mod bits;
-mod matching;
+mod diagram_patterns;
+mod long_patterns;
 mod shapes;
 mod survey;
 mod trials;
-mod trying;
+mod value_patterns;
 
 pub use all_patterns::Subjects;
 pub use bits::{Bits, WORD};
-pub use matching::{Bindings, matches, parts_of};
 pub use shapes::{Composition, Shape};
-pub use survey::{Look, Step};
+pub use survey::{Look, ShapeRow};
 pub use trials::{Outcome, Trial, Trials};
+pub use value_patterns::{Bindings, matches, parts_of};

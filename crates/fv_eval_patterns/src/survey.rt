@@ -6,13 +6,13 @@ ghost use Rattle.fv_diagram.specs.headline.Diagram.{Diagram};
 ghost use Rattle.fv_diagram.specs.Arena.{Arena, count_of, tree_of};
 ghost use Rattle.fv_eval_scopes.specs.Memo.{Remembers};
 ghost use Rattle.fv_eval_patterns.specs.Bits.{has};
-ghost use Rattle.fv_eval_patterns.specs.Shapes.{Denies, IsRowed, IsSeen, IsShape, IsStep, IsSurvey, IsThere};
+ghost use Rattle.fv_eval_patterns.specs.Shapes.{Denies, IsRowed, IsSeen, IsShape, IsShapeRow, IsSurvey, IsThere};
 ghost use Rattle.fv_eval_patterns.specs.Shapes.{Never, Sees, SeesParts, marked, DeniesParts, HasNoOther};
 ghost use Rattle.fv_eval_patterns.specs.Trials.{Says};
 
 use crate::bits::Bits;
-use crate::matching::Pair;
 use crate::shapes::{Composition, Shape, composition_of, is_same_shape, number_is, stands_for};
+use crate::value_patterns::Pair;
 use fv_diagram::{DiagramId, Diagrams};
 use fv_eval_scopes::Numbers;
 use fv_parse::{Tree, TreeId, TreeNode};
@@ -32,7 +32,7 @@ const SLOTS: usize = 65_536;
 
 /// The row of diagrams of a shape.
 #[derive(Clone, Copy, Debug)]
-pub struct Step {
+pub struct ShapeRow {
     pub shape: Shape,
     pub row: u64,
 }
@@ -50,7 +50,7 @@ pub enum Look {
 #[derive(Drop)]
 pub(crate) struct Survey {
     rows: Vec<Bits>,
-    steps: Vec<Option<Step>>,
+    steps: Vec<Option<ShapeRow>>,
     of_diagrams: Vec<Option<u64>>,
     by_bits: Vec<u64>,
     /// How many pairs were tried, and what rows cost so far, in such pairs.
@@ -193,7 +193,7 @@ impl Survey {
     }
 
     // What a slot has.
-    fn step_at(&self, i: usize) -> Option<Step>
+    fn step_at(&self, i: usize) -> Option<ShapeRow>
         ensures { IfSome result (λ f. slice_get self.now.steps i ≡ Some (Some f)) }
     {
         if i < self.steps.len() {
@@ -206,7 +206,7 @@ impl Survey {
     // The row of diagrams of a shape, if that is remembered.
     fn remembered(&self, shape: &Shape) -> Option<u64>
         ensures { IfSome result (λ r. (p : Parsed) (a : Arena) → IsSurvey p a self.now
-            → IsStep p self.now.rows (record { shape = shape.now; row = r })) }
+            → IsShapeRow p self.now.rows (record { shape = shape.now; row = r })) }
     {
         let step = self.step_at(Survey::slot(shape))?;
         if is_same_shape(&step.shape, shape) {
@@ -217,9 +217,9 @@ impl Survey {
     }
 
     // Remembers the row of a shape.
-    fn keep_step(&mut self, step: Step) -> Result<(), AllocError>
+    fn keep_step(&mut self, step: ShapeRow) -> Result<(), AllocError>
         ensures rows { self.new.rows ≡ self.old.rows }
-        ensures survey { (p : Parsed) (a : Arena) → IsSurvey p a self.old → IsStep p self.old.rows step → IsSurvey p a self.new }
+        ensures survey { (p : Parsed) (a : Arena) → IsSurvey p a self.old → IsShapeRow p self.old.rows step → IsSurvey p a self.new }
     {
         let i = Survey::slot(&step.shape);
         put_step(&mut self.steps, i, step)?;
@@ -267,7 +267,7 @@ impl Survey {
         }
         let made = self.row(alloc, tree, shape)?;
         let row = self.keep_row(made, tree.len() / CHEAPER)?;
-        self.keep_step(Step { shape, row })?;
+        self.keep_step(ShapeRow { shape, row })?;
         self.assign(id, row)?;
         Ok(true)
     }
@@ -398,7 +398,7 @@ fn put_number(list: &mut Vec<u64>, i: usize, number: u64) -> Result<(), AllocErr
 }
 
 // Puts the row of a shape at a place of a list, which is widened to it.
-fn put_step(list: &mut Vec<Option<Step>>, i: usize, step: Step) -> Result<(), AllocError>
+fn put_step(list: &mut Vec<Option<ShapeRow>>, i: usize, step: ShapeRow) -> Result<(), AllocError>
     ensures { HasNoOther list.old.items list.new.items i step }
 {
     'widen: while list.len() <= i {

@@ -8,8 +8,8 @@ ghost use Rattle.fv_eval_patterns.specs.Remembered.{nothing};
 ghost use Rattle.fv_eval_patterns.specs.Shapes.{IsThere};
 ghost use Rattle.fv_eval_patterns.specs.Trials.{Binds, Says, Recalls, may_match, outcome_of};
 
-use crate::matching::Pair;
 use crate::survey::Survey;
+use crate::value_patterns::Pair;
 use fv_diagram::{DiagramId, Diagrams};
 use fv_eval_scopes::{Binding, Numbers};
 use fv_parse::Tree;

@@ -14,7 +14,7 @@ use Rattle.fv_graph_core.specs.Running.{Running}
 use Rattle.fv_graph_core.specs.Stored.{now_of, running_of, IsStored}
 use Rattle.fv_graph_core.specs.declared.event.Event.{Event}
 use Rattle.fv_graph_core.specs.declared.event.Event.TheVariants.{Arrive}
-use Rattle.fv_graph_core.specs.declared.running.Core.TheInside.{Inside}
+use Rattle.fv_graph_core.specs.declared.task_core.Core.TheInside.{Inside}
 use Rattle.fv_graph_core.proofs.Stepping.{valid_after, valid_now}
 use Rattle.fv_graph_core.proofs.lemmas.Opens.{opens}
 

@@ -17,7 +17,7 @@ use Rattle.std.specs.Vec.{vec_len}
 use Rattle.fv_graph_core.specs.Kept.{rooms_of, owed_rooms}
 use Rattle.fv_graph_core.specs.Running.{Running}
 use Rattle.fv_graph_core.specs.Stored.{now_of, running_of, IsStored}
-use Rattle.fv_graph_core.specs.declared.running.Core.TheInside.{Inside}
+use Rattle.fv_graph_core.specs.declared.task_core.Core.TheInside.{Inside}
 use Rattle.fv_graph_core.proofs.Keeps.{legal_in}
 use Rattle.fv_graph_core.proofs.Valid.{owed, most, ran}
 use Rattle.fv_graph_core.proofs.Law.{is_run_of, some_of}

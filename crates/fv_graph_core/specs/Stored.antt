@@ -7,7 +7,7 @@ use Rattle.fv_graph_core.specs.Core.{Now}
 use Rattle.fv_graph_core.specs.Valid.{IsValid}
 use Rattle.fv_graph_core.specs.Kept.{deques_of, rooms_of, owed_of, owed_rooms}
 use Rattle.fv_graph_core.specs.Running.{Running}
-use Rattle.fv_graph_core.specs.declared.running.Core.TheInside.{Inside}
+use Rattle.fv_graph_core.specs.declared.task_core.Core.TheInside.{Inside}
 
 -- the state that the fields mean
 abbrev pub now_of : Inside → Now

@@ -6,7 +6,7 @@ ghost use Rattle.fv_graph_core.specs.Core.{replayed, opening};
 ghost use Rattle.fv_graph_core.specs.Law.{CoreLaw};
 
 use crate::event::Event;
-use crate::running::Core;
+use crate::task_core::Core;
 use fv_graph::Tasks;
 use std::alloc::{AllocError, Global};
 

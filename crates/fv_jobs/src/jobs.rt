@@ -5,7 +5,7 @@ ghost use Rattle.fv_jobs.specs.headline.Jobs.{jobs_in};
 ghost use Rattle.fv_jobs.specs.headline.File.{jobs_file};
 ghost use Rattle.fv_jobs.specs.File.{IsOfJobs};
 
-use crate::cutting::{count, cut};
+use crate::cut_lines::{count, cut};
 use crate::refusal::JobsRefusal;
 use fv_base::Role;
 use fv_base::limits::{LONGEST_TEXT, MOST_JOBS};

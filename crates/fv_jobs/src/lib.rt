@@ -1,7 +1,7 @@
 //! Files of jobs: the texts of programs that are to run side by side.
 #![tactic(auto)]
 
-mod cutting;
+mod cut_lines;
 mod jobs;
 mod laws;
 mod refusal;

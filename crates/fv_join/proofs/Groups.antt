@@ -13,7 +13,7 @@ use Rattle.fv_signal.specs.headline.Value.{Graph, members, definition, NamesWith
 use Rattle.fv_share.specs.Drafts.{Draft, AreClosed, AreOpened, AreShut, BacksWithin, CanClose, IsPending}
 use Rattle.fv_share.specs.Drafts.{with_groups, with_tables, with_members, with_all_members}
 use Rattle.fv_share.proofs.lemmas.Groups.{groups_stay}
-use Rattle.fv_join.specs.declared.copying.Offsets.{Offsets}
+use Rattle.fv_join.specs.declared.graph_copy.Offsets.{Offsets}
 use Rattle.fv_join.specs.Jobs.{NamesBelow, ReadsWithin}
 use Rattle.fv_join.specs.inner.Copied.{renumbered, definitions_of, offsets_behind, NumbersFit, HaveRoom}
 use Rattle.fv_join.specs.inner.Copied.{AreListed, IsAppended, IsImage, IsOneOf, IsValid, IsUnderWay}

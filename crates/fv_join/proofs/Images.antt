@@ -12,7 +12,7 @@ use Rattle.fv_signal.specs.declared.signal.Signal.TheVariants.{Input, Const, Con
 use Rattle.fv_signal.specs.headline.Value.{Graph, definition, OperandsBelow, NamesWithin}
 use Rattle.fv_share.specs.Drafts.{Draft, CanPut, IsPending, IsPut, IsShut, NamesSoFar, OperandsThere, put}
 use Rattle.fv_share.proofs.lemmas.Puts.{put_stands}
-use Rattle.fv_join.specs.declared.copying.Offsets.{Offsets}
+use Rattle.fv_join.specs.declared.graph_copy.Offsets.{Offsets}
 use Rattle.fv_join.specs.inner.Copied.{renumbered, copy_of, AreListed, IsImage, IsOneOf, IsUnderWay}
 
 -- ---- lists that grow

@@ -15,7 +15,7 @@ use Rattle.fv_signal.specs.headline.Value.{Graph, value, IsGraph}
 use Rattle.fv_share.specs.Drafts.{Draft, AreClosed, graph_of}
 use Rattle.fv_share.proofs.lemmas.Kept.{tables_stay}
 use Rattle.fv_join.specs.declared.job.Job.{Job}
-use Rattle.fv_join.specs.declared.copying.Offsets.{Offsets}
+use Rattle.fv_join.specs.declared.graph_copy.Offsets.{Offsets}
 use Rattle.fv_join.specs.Jobs.{CanBeJoined, NamesBelow, ReadsWithin, inputs_of, controls_of, outputs_of}
 use Rattle.fv_join.specs.Joined.{HasDelay, IsJoined, IsNamed, KeepsValues, output}
 use Rattle.fv_join.specs.inner.Copied.{renumbered, IsAppended, IsCopied, IsOneOf, IsValid}

@@ -4,7 +4,7 @@ ghost use Rattle.std.specs.Prelude.{IfOk};
 ghost use Rattle.fv_join.specs.Jobs.{CanBeJoined};
 ghost use Rattle.fv_join.specs.Joined.{IsJoined};
 
-use crate::copying::append;
+use crate::graph_copy::append;
 use crate::job::Job;
 use fv_share::Builder;
 use fv_signal::Graph;

@@ -1,7 +1,7 @@
 //! Several graphs side by side in one.
 #![tactic(auto)]
 
-mod copying;
+mod graph_copy;
 mod job;
 mod joined;
 

@@ -2,11 +2,11 @@
 #![tactic(auto)]
 
 mod coding;
+mod decoder;
+mod encoder;
 mod laws;
-mod reading;
-mod writing;
 
 pub use coding::Coding;
+pub use decoder::{decode, decoded};
+pub use encoder::{DATA_LIMIT, data_length, encode};
 pub use laws::{sample_is_read_again, samples_are_read_again, samples_follow};
-pub use reading::{decode, decoded};
-pub use writing::{DATA_LIMIT, data_length, encode};

@@ -1,5 +1,5 @@
 pub mod Fuel
-pub mod SoundValues
-pub mod SoundCompositions
-pub mod Sound
+pub mod ValidValues
+pub mod ValidCompositions
+pub mod Valid
 pub mod LiteralNumbers

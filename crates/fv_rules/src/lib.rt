@@ -4,10 +4,10 @@
 
 mod laws;
 mod literals;
-mod putting;
+mod put_diagram;
 mod refusal;
 
 pub use laws::{evaluates_to_runnables, evaluation_follows, literals_stay};
 pub use literals::{literal, literal_value, negative_literal};
-pub use putting::put;
+pub use put_diagram::put;
 pub use refusal::{EvalRefusal, TableCause, too_many_to_count, too_many_to_keep};

@@ -1,8 +1,8 @@
 // The pass over a graph of signals that makes it simpler.
 #![tactic(auto)]
 
-mod choosing;
 mod image;
+mod kept_operand;
 mod late;
 mod laws;
 mod marks;
@@ -13,7 +13,7 @@ mod short;
 mod simpler;
 mod widths;
 
-pub use choosing::choice;
+pub use kept_operand::choice;
 pub use late::delayed;
 pub use laws::{a_pass_rebuilds, images_are_put};
 pub use short::are_short;

@@ -7,7 +7,7 @@ ghost use Rattle.fv_simplify_rules.specs.Choices.{choice as choice_of};
 ghost use Rattle.fv_simplify_rules.specs.Nodes.{known as known_of, numbers as numbers_of};
 ghost use Rattle.fv_simplify.specs.Passing.{so_far, chosen as chosen_of, operation as operation_of};
 
-use crate::choosing::choice;
+use crate::kept_operand::choice;
 use crate::late::{number, put_number, put_signal};
 use fv_num::{Op, apply};
 use fv_share::Builder;

@@ -2,10 +2,10 @@
 #![tactic(auto)]
 
 mod cells;
+mod graph_parts;
 mod kinds;
 mod lists;
 mod loop_code;
-mod splitting;
 mod told_reads;
 
-pub use splitting::split;
+pub use graph_parts::split;

@@ -1,19 +1,19 @@
 //! Workers that run the tasks of a block side by side, each from its own deque, and steal from one another.
 #![tactic(auto)]
 
+mod all_holds;
 mod body;
-mod dealing;
-mod gathering;
+mod crew;
+mod crew_deques;
+mod crew_work;
 mod journal;
-mod making;
 mod moves;
 mod part;
 mod side_by_side;
 mod turns;
 mod worker;
-mod working;
 
 pub use body::Body;
+pub use crew_work::work;
 pub use journal::journal_law;
 pub use worker::Worker;
-pub use working::work;

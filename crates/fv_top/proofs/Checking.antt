@@ -1,4 +1,4 @@
--- How a check ends, from how its two steps do.
+-- How a check ends, from how its two stages do.
 use Rattle.std.proofs.Common.{◌≡◌, ℕ, ◌+◌, ◌≤◌, List, [], ◌++◌, length, length-append, sym, ◌∙◌, ap, subst, refl, inl, inr, arith}
 use Rattle.std.specs.Prelude.{IsTrue, Some}
 use Rattle.std.proofs.lemmas.List.{append-nil}
@@ -17,7 +17,7 @@ use Rattle.fv_top_report.specs.headline.Lines.{check_line}
 use Rattle.fv_top.specs.headline.Meant.{check_meant}
 use Rattle.fv_top_report.specs.Parts.{AppendsPart}
 use Rattle.fv_top_files.specs.Loading.{ReadsFile, StopsLoading, IsFile}
-use Rattle.fv_top.specs.headline.Steps.{Halts, fault, judged, want_of_memory, reads, writes, here, later}
+use Rattle.fv_top.specs.headline.Stages.{Halts, fault, judged, want_of_memory, reads, writes, here, later}
 use Rattle.fv_top.specs.headline.Promise.{IsReadBy, ReadProgram, HasProgram, HasNoProgram, rules_of}
 use Rattle.fv_top.specs.inner.Running.{Checks, StopsCheck}
 use Rattle.fv_top.proofs.Reaching.{FailsToLoad, load_faults, is_another}

@@ -21,12 +21,12 @@ use Rattle.fv_top_words.specs.declared.manner.InputKind.{InputKind}
 use Rattle.fv_top_files.specs.headline.Sources.{Source, found, script_of, source_of}
 use Rattle.fv_top_files.specs.headline.Output.{coding_of, format_of, cut_in}
 use Rattle.fv_top_files.specs.headline.Loading.{HasScript, HasInput}
-use Rattle.fv_top.specs.headline.Steps.{Ends, Rules}
-use Rattle.fv_top.specs.inner.Steps.{IsJudge}
-use Rattle.fv_top.specs.headline.Promise.{Asks, HasProgram, HasProgramOf, HasNoProgram, Plays, IsWhole, Step, ReadProgram, ReadScript}
-use Rattle.fv_top.specs.headline.Promise.{ReadHead, Fit, Write, Tell, StepPasses, StepRefuses, rules_of, steps_of, IsKnown, CanDo}
+use Rattle.fv_top.specs.headline.Stages.{Ends, Rules}
+use Rattle.fv_top.specs.inner.Stages.{IsJudge}
+use Rattle.fv_top.specs.headline.Promise.{Asks, HasProgram, HasProgramOf, HasNoProgram, Plays, IsWhole, Stage, ReadProgram, ReadScript}
+use Rattle.fv_top.specs.headline.Promise.{ReadHead, Fit, Write, Tell, StagePasses, StageRefuses, rules_of, stages_of, IsKnown, CanDo}
 use Rattle.fv_top.specs.headline.Promise.{HasCause, bad_words, of_job, HasDone, IsComplete, IsStrict, IsExact, IsRefusedOrNoMemory}
-use Rattle.fv_top.proofs.StepLaws.{exactly, completes, passes_apart}
+use Rattle.fv_top.proofs.StageLaws.{exactly, completes, passes_apart}
 
 -- ---- a name has one file, and a file says one thing
 
@@ -88,10 +88,10 @@ one_cut run files once p q =
     let same : p.format ≡ q.format = cc in
     ap (λ s. cut_in s p.source) same ∙ ap (λ (w : Source). cut_in q.format w) (one_source p.on q.on)
 
--- ---- the steps of a run judge
+-- ---- the stages of a run judge
 
-once_in : (run : Run) (files : List File) → IsOneFile → (s : Step) (a b : Refusal) → StepRefuses (Playing run) files s a →
-    StepRefuses (Playing run) files s b → a ≡ b
+once_in : (run : Run) (files : List File) → IsOneFile → (s : Stage) (a b : Refusal) → StageRefuses (Playing run) files s a →
+    StageRefuses (Playing run) files s b → a ≡ b
 once_in run files once ReadProgram a b h k = one_text (FileIs run.manner.program) (once run.manner.program) run.program files a b h k
 once_in run files once ReadScript a b h k =
     let e = one_script (ap (λ (c : Compiled). c.controls) (program_of run files once h.0 k.0)) h.1 k.1 in cc
@@ -100,7 +100,8 @@ once_in run files once Fit a b h k = let e = sym h.3 ∙ one_format run files on
 once_in run files once Write a b h k = let e = sym h.1 ∙ one_cut run files once h.0 k.0 ∙ k.1 in cc
 once_in run files once Tell a b h k = absurd h
 
-apart_in : (run : Run) (files : List File) → IsOneFile → (s : Step) (a : Refusal) → StepPasses (Playing run) files s → StepRefuses (Playing run) files s a → ⊥
+apart_in : (run : Run) (files : List File) → IsOneFile → (s : Stage) (a : Refusal)
+    → StagePasses (Playing run) files s → StageRefuses (Playing run) files s a → ⊥
 apart_in run files once ReadProgram a p h = program_apart (FileIs run.manner.program) (once run.manner.program) run.program files a p h
 apart_in run files once ReadScript a p h =
     let e = one_script (ap (λ (c : Compiled). c.controls) (program_of run files once p.0 h.0)) p.2 h.1 in absurd cc
@@ -110,8 +111,8 @@ apart_in run files once Write a p h = let e = sym p.1 ∙ one_cut run files once
 apart_in run files once Tell a p h = h
 
 -- and so do those of a check
-check_once : (name : List ℕ) (files : List File) → IsOneText → (s : Step) (a b : Refusal) → StepRefuses (Checking name) files s a →
-    StepRefuses (Checking name) files s b → a ≡ b
+check_once : (name : List ℕ) (files : List File) → IsOneText → (s : Stage) (a b : Refusal) → StageRefuses (Checking name) files s a →
+    StageRefuses (Checking name) files s b → a ≡ b
 check_once name files once ReadProgram a b h k = one_text TextIs once name files a b h k
 check_once name files once ReadScript a b h k = absurd h
 check_once name files once ReadHead a b h k = absurd h
@@ -119,8 +120,8 @@ check_once name files once Fit a b h k = absurd h
 check_once name files once Write a b h k = absurd h
 check_once name files once Tell a b h k = absurd h
 
-check_apart : (name : List ℕ) (files : List File) → IsOneText → (s : Step) (a : Refusal) → StepPasses (Checking name) files s →
-    StepRefuses (Checking name) files s a → ⊥
+check_apart : (name : List ℕ) (files : List File) → IsOneText → (s : Stage) (a : Refusal) → StagePasses (Checking name) files s →
+    StageRefuses (Checking name) files s a → ⊥
 check_apart name files once ReadProgram a p h = program_apart TextIs once name files a p h
 check_apart name files once ReadScript a p h = h
 check_apart name files once ReadHead a p h = h
@@ -137,18 +138,18 @@ judges (Making voices frames workers) old once = record { once = λ s a b h k. a
 one_command : (words : List (List ℕ)) (a b : Job) → Asks words a → Asks words b → a ≡ b
 one_command words a b h k = let e = sym h ∙ k in cc
 
--- the steps of what was refused are those of its words
+-- the stages of what was refused are those of its words
 ends_of : (words : List (List ℕ)) (job : Job) (old new : DeskState) (e : Refusal) (asked : List Request) → Asks words job
-    → HasCause words old new e asked → (rs : List Request) × Ends (rules_of job old) old new (steps_of job) e rs
+    → HasCause words old new e asked → (rs : List Request) × Ends (rules_of job old) old new (stages_of job) e rs
 ends_of words job old new e asked asks (bad_words h) = let f = sym asks ∙ h in absurd cc
 ends_of words job old new e asked asks (of_job other named h) =
-    (asked, subst (λ (n : Job). Ends (rules_of n old) old new (steps_of n) e asked) (one_command words other job named asks) h)
+    (asked, subst (λ (n : Job). Ends (rules_of n old) old new (stages_of n) e asked) (one_command words other job named asks) h)
 
 -- ---- a run that is done
 pub done_exact : {words : List (List ℕ)} {frames : ℕ} {old new : DeskState} (tally : Tally) → HasDone words frames old new → IsExact words (Done tally)
 done_exact tally p cause h = let f = sym p.asks ∙ h in absurd cc
 
-passes_in : (run : Run) (files : List File) → (p : Plays run files) → IsWhole p → (s : Step) → StepPasses (Playing run) files s
+passes_in : (run : Run) (files : List File) → (p : Plays run files) → IsWhole p → (s : Stage) → StagePasses (Playing run) files s
 passes_in run files p whole ReadProgram = p.of
 passes_in run files p whole ReadScript = (p.of, p.changes, p.under)
 passes_in run files p whole ReadHead = (p.source, p.on)
@@ -156,7 +157,7 @@ passes_in run files p whole Fit = p
 passes_in run files p whole Write = (p, whole)
 passes_in run files p whole Tell = tt
 
-check_passes : (name : List ℕ) (files : List File) → HasProgram TextIs name files → (s : Step) → StepPasses (Checking name) files s
+check_passes : (name : List ℕ) (files : List File) → HasProgram TextIs name files → (s : Stage) → StagePasses (Checking name) files s
 check_passes name files p ReadProgram = p
 check_passes name files p ReadScript = tt
 check_passes name files p ReadHead = tt
@@ -164,8 +165,8 @@ check_passes name files p Fit = tt
 check_passes name files p Write = tt
 check_passes name files p Tell = tt
 
--- each step of what can be done passes
-passes_of : (job : Job) (old : DeskState) → CanDo job old.files → (s : Step) → Rules.Passes (rules_of job old) s
+-- each stage of what can be done passes
+passes_of : (job : Job) (old : DeskState) → CanDo job old.files → (s : Stage) → Rules.Passes (rules_of job old) s
 passes_of (Playing run) old can s = passes_in run old.files can.0 can.1 s
 passes_of (Checking name) old can s = check_passes name old.files can s
 passes_of (Making voices frames workers) old can s = tt
@@ -175,8 +176,8 @@ pub done_strict : {words : List (List ℕ)} {frames : ℕ} {old new : DeskState}
 done_strict {words} {frames} {old} {new} tally once p job wanted asks known stops =
     let same = one_command words p.job job p.asks asks in
     let can = (p.told (subst (λ (n : Job). IsKnown n old) (sym same) known)).0 in
-    let passes = subst (λ (n : Job). (s : Step) → Rules.Passes (rules_of n old) s) same (passes_of p.job old can) in
-    absurd (passes_apart (rules_of job old) old new (judges job old once) (steps_of job) wanted passes stops)
+    let passes = subst (λ (n : Job). (s : Stage) → Rules.Passes (rules_of n old) s) same (passes_of p.job old can) in
+    absurd (passes_apart (rules_of job old) old new (judges job old once) (stages_of job) wanted passes stops)
 
 -- ---- a run that was refused
 pub refused_exact : {words : List (List ℕ)} {old new : DeskState} {e : Refusal} {asked : List Request} → HasCause words old new e asked
@@ -192,10 +193,10 @@ pub refused_strict : {words : List (List ℕ)} {old new : DeskState} {e : Refusa
     → IsStrict words old new (Refused e)
 refused_strict {words} {old} {new} {e} {asked} cause once job wanted asks known stops =
     let ends = ends_of words job old new e asked asks cause in
-    as_status wanted e (exactly (rules_of job old) old new (judges job old once) known (steps_of job) wanted e ends.0 stops ends.1)
+    as_status wanted e (exactly (rules_of job old) old new (judges job old once) known (stages_of job) wanted e ends.0 stops ends.1)
 
 pub refused_complete : {words : List (List ℕ)} {old new : DeskState} {e : Refusal} {asked : List Request} → HasCause words old new e asked → IsOneFile
     → IsComplete words old new (Refused e)
 refused_complete {words} {old} {new} {e} {asked} cause once job asks known passes =
     let ends = ends_of words job old new e asked asks cause in
-    completes (rules_of job old) old new (judges job old once) known (steps_of job) e ends.0 passes ends.1
+    completes (rules_of job old) old new (judges job old once) known (stages_of job) e ends.0 passes ends.1

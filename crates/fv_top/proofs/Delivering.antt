@@ -39,9 +39,9 @@ use Rattle.fv_top_files.specs.headline.Output.{OutputFormat, coding_of, format_o
 use Rattle.fv_top.specs.headline.Meant.{written_by}
 use Rattle.fv_top_report.specs.headline.Lines.{done_line}
 use Rattle.fv_top_report.specs.Parts.{AppendsPart}
-use Rattle.fv_top.specs.headline.Steps.{reads, writes, Halts, fault, judged, Ends, here, later}
+use Rattle.fv_top.specs.headline.Stages.{reads, writes, Halts, fault, judged, Ends, here, later}
 use Rattle.fv_top_files.specs.headline.Loading.{LeavesRest, ReadsWithin, reading}
-use Rattle.fv_top.specs.headline.Promise.{Asks, Plays, IsWhole, Write, Tell, HasRoom, meant, rules_of, steps_of, CanDo, meant_of}
+use Rattle.fv_top.specs.headline.Promise.{Asks, Plays, IsWhole, Write, Tell, HasRoom, meant, rules_of, stages_of, CanDo, meant_of}
 use Rattle.fv_top.specs.headline.Promise.{of_job, LeavesOutput, HasPlayedPresent, IsReadBy, IsRead, KeepsOthers}
 use Rattle.fv_top.specs.headline.Played.{HaveRan, RanSoFar}
 use Rattle.fv_top_files.specs.Formats.{format_in}
@@ -116,9 +116,9 @@ module _ {words : List (List ℕ)} {run : Run} {m : Compiled} {p : Prepared} {a 
       ∙ fits_frames (coding_of run.manner.output) run.settings q.of.compiled.diagram h q.format
       (ap (format_of (coding_of run.manner.output) run.settings q.of.compiled.diagram) (sym named) ∙ q.fits)
 
-  -- all steps before it passed
+  -- all stages before it passed
   behind : (d : DeskState) (e : Refusal) (asked : List Request) → Ends (rules_of (Playing run) a) a d (Write ∷ Tell ∷ []) e asked →
-      Ends (rules_of (Playing run) a) a d (steps_of (Playing run)) e
+      Ends (rules_of (Playing run) a) a d (stages_of (Playing run)) e
       (to_read Program run.program ∷ (reading Controls run.controls ++ (reading Input run.input ++ asked)))
   behind d e asked h =
       later (λ t. (plays_by t).of)

@@ -1,5 +1,5 @@
 pub mod Scripts
-pub mod StepLaws
+pub mod StageLaws
 pub mod Reaching
 pub mod Preparing
 pub mod Checking

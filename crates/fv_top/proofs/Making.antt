@@ -26,8 +26,8 @@ use Rattle.fv_top_voices.specs.Voices.{VoicesAreNotRefused}
 use Rattle.fv_top_report.specs.headline.Lines.{made_line}
 use Rattle.fv_top.specs.headline.Meant.{make_meant}
 use Rattle.fv_top_report.specs.Parts.{AppendsPart}
-use Rattle.fv_top.specs.headline.Steps.{Ends, fault, want_of_memory, writes, here, later}
-use Rattle.fv_top.specs.headline.Promise.{rules_of, steps_of}
+use Rattle.fv_top.specs.headline.Stages.{Ends, fault, want_of_memory, writes, here, later}
+use Rattle.fv_top.specs.headline.Promise.{rules_of, stages_of}
 use Rattle.fv_top.specs.inner.Running.{Makes, StopsMake, HasSum}
 
 -- ---- the program and its noise
@@ -59,7 +59,7 @@ make_stops voices frames workers a e m = record {
   goes_on = goes_on_self a;
   others = record { left = λ t r none. refl; written = λ t r n m. refl; begins = λ r n. refl };
   requests = sym (append-nil a.requests);
-  ends = subst (λ (r : Refusal). Ends (rules_of (Making voices frames workers) a) a a (steps_of (Making voices frames workers)) r []) (sym m)
+  ends = subst (λ (r : Refusal). Ends (rules_of (Making voices frames workers) a) a a (stages_of (Making voices frames workers)) r []) (sym m)
       (here (want_of_memory tt));
   output = record { begins = refl; written = λ t. refl };
   begun = [];

@@ -17,8 +17,8 @@ use Rattle.fv_top_text.specs.headline.Compiled.{Compiled}
 use Rattle.fv_top_files.specs.headline.Output.{OutputFormat, coding_of, format_of}
 use Rattle.fv_top_files.specs.headline.Loading.{HasScript, HasInput, reading}
 use Rattle.fv_top_files.specs.Loading.{ReadsFile, IsFile, HasHead, IsLeft, IsHeadRefusal}
-use Rattle.fv_top.specs.headline.Steps.{Ends, here, later, judged, want_of_memory}
-use Rattle.fv_top.specs.headline.Promise.{IsReadBy, ReadProgram, ReadScript, ReadHead, Fit, HasProgramOf, HasNoProgram, Plays, Step, rules_of}
+use Rattle.fv_top.specs.headline.Stages.{Ends, here, later, judged, want_of_memory}
+use Rattle.fv_top.specs.headline.Promise.{IsReadBy, ReadProgram, ReadScript, ReadHead, Fit, HasProgramOf, HasNoProgram, Plays, Stage, rules_of}
 use Rattle.fv_top.specs.inner.Promise.{IsScriptRefusal}
 use Rattle.fv_top.specs.inner.Running.{Reaches, StopsBefore, asked_before}
 use Rattle.fv_top_files.specs.declared.format.OutputFormat.{OutputFormat as Made}
@@ -139,8 +139,8 @@ stops_head {run} {p} {changes} {a} {b} {c} {e} w f =
 
 module _ {run : Run} {p : Compiled} {changes : List Change} {head : Option Incoming} {held : Option (List ℕ)} {a b : DeskState}
     (w : AfterHead run p changes head held a b) where
-  -- the steps up to the head passed
-  passed : (c : DeskState) (e : Refusal) (rest : List Step) (asked : List Request) → Ends (rules_of (Playing run) a) a c (Fit ∷ rest) e asked
+  -- the stages up to the head passed
+  passed : (c : DeskState) (e : Refusal) (rest : List Stage) (asked : List Request) → Ends (rules_of (Playing run) a) a c (Fit ∷ rest) e asked
       → Ends (rules_of (Playing run) a) a c (ReadProgram ∷ ReadScript ∷ ReadHead ∷ Fit ∷ rest) e
       (to_read Program run.program ∷ (reading Controls run.controls ++ (reading Input run.input ++ asked)))
   passed c e rest asked h =

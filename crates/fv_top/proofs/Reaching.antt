@@ -22,8 +22,8 @@ use Rattle.fv_top_files.specs.headline.Output.{OutputFormat, format_of, counted,
 use Rattle.fv_top_files.specs.headline.Inputs.{stated_frames}
 use Rattle.fv_top_files.specs.headline.Loading.{IsThere, reading}
 use Rattle.fv_top_files.specs.Loading.{ReadsFile, StopsLoading}
-use Rattle.fv_top.specs.headline.Steps.{Halts, fault, judged, want_of_memory, reads}
-use Rattle.fv_top.specs.headline.Promise.{WantsMemory, IsReadBy, Step, Fit, TakesTurn, IsAnswered, HasRefusal, StepRefuses, rules_of}
+use Rattle.fv_top.specs.headline.Stages.{Halts, fault, judged, want_of_memory, reads}
+use Rattle.fv_top.specs.headline.Promise.{WantsMemory, IsReadBy, Stage, Fit, TakesTurn, IsAnswered, HasRefusal, StageRefuses, rules_of}
 use Rattle.fv_top.specs.inner.Running.{Reaches, CountsFaultOf, asked_before}
 
 pub reaches_nothing : (Reads : Role → Type 0) (a : DeskState) → Reaches Reads [] a a
@@ -42,7 +42,7 @@ reaches_file {Reads} {role} {name} {asked} {a} is p q = record {
   left = λ t r none. q.others (told_before p.quiet.goes_on t) r (λ named. is_another Reads (is named) none) ∙ p.left t r none;
 }
 
--- ---- why a step halts
+-- ---- why a stage halts
 
 -- A file that may be named was read and cannot be used, by a refusal of this kind, for what P says of it.
 pub record FailsToLoad (role : Role) (name : Option (List ℕ)) (Kind P : Refusal → Type 0) (b c : DeskState) (e : Refusal) : Type 0 where
@@ -50,12 +50,12 @@ pub record FailsToLoad (role : Role) (name : Option (List ℕ)) (Kind P : Refusa
   pub stops : StopsLoading role name Kind P b c e
   pub steady : (e ≡ ReadFault role → ⊥) → KeepsFaults b c
 
--- what stops the loading of a file halts its step
-pub loading_halts : (run : Run) (s : Step) (role : Role) (name : Option (List ℕ)) (P : Refusal → Type 0)
+-- what stops the loading of a file halts its stage
+pub loading_halts : (run : Run) (s : Stage) (role : Role) (name : Option (List ℕ)) (P : Refusal → Type 0)
     {asked : List Request} {a b c : DeskState} {e : Refusal}
     → WantsMemory s → Reaches (IsReadBy (Playing run)) asked a b → (IsSome name → TakesTurn (Playing run) s (reads role))
     → (IsAnswered (Playing run) a s (reads role) → IsUnfailing role a × IsThere name a.files)
-    → (IsTrue a.tells → (r : Refusal) → P r → StepRefuses (Playing run) a.files s r) → StopsLoading role name (HasRefusal run.manner.program s) P b c e
+    → (IsTrue a.tells → (r : Refusal) → P r → StageRefuses (Playing run) a.files s r) → StopsLoading role name (HasRefusal run.manner.program s) P b c e
     → Halts (rules_of (Playing run) a) a c s e
 loading_halts run s role name P {a = a} {c = c} m p takes answers refuses (inl h) =
     let on = p.quiet.goes_on in
@@ -100,7 +100,7 @@ kind_chosen : (b : Bool) (r : Result OutputFormat Refusal) (have want : ℕ) (e 
 kind_chosen true r have want e k is = k is
 kind_chosen false r have want e k is = let same : Channels have want ≡ e = cc in subst (HasRefusal Alone Fit) same refl
 
--- its refusals are those of its step
+-- its refusals are those of its stage
 pub fit_kind : (out : Coding) (s : Settings) (d : Diagram) (head : Option Incoming) (e : Refusal) → format_of out s d head ≡ Err e → HasRefusal Alone Fit e
 fit_kind out s d head e is =
     let frames = frames_in s head in
@@ -123,7 +123,7 @@ fits_frames out s d h format is =
     let r = chosen (h.channels == inputs d) (counted out s (outputs d) (Some h) (frames_in s (Some h))) _ format is in
     sized_frames (nat_le (data_size (outputs d) _ (stated_frames h)) data_limit) _ format _ r
 
--- nothing more is asked for by the steps that judge and compute
+-- nothing more is asked for by the stages that judge and compute
 pub reaches_on : (run : Run) (a b : DeskState) → Reaches (IsReadBy (Playing run)) (asked_before run) a b
     → Reaches (IsReadBy (Playing run)) (to_read Program run.program ∷ (reading Controls run.controls ++ (reading Input run.input ++ []))) a b
 reaches_on run a b p =

@@ -11,8 +11,8 @@ use Rattle.fv_outside.proofs.lemmas.States.{goes_on_then, fault_earlier, fault_l
 use Rattle.fv_top_words.specs.headline.Runs.{Run}
 use Rattle.fv_top_report.specs.declared.refusal.Refusal.{Refusal}
 use Rattle.fv_top_report.specs.headline.Lines.{refused_line}
-use Rattle.fv_top.specs.headline.Steps.{Rules, role_of, Halts, fault, judged, want_of_memory, Ends, here, later}
-use Rattle.fv_top.specs.headline.Promise.{rules_of, steps_of, HasCause, bad_words, of_job, LeavesOutput, HasPlayedPresent, CutsShort}
+use Rattle.fv_top.specs.headline.Stages.{Rules, role_of, Halts, fault, judged, want_of_memory, Ends, here, later}
+use Rattle.fv_top.specs.headline.Promise.{rules_of, stages_of, HasCause, bad_words, of_job, LeavesOutput, HasPlayedPresent, CutsShort}
 use Rattle.fv_top.specs.inner.Running.{Stopped, ReportsLine, EndsRefused}
 use Rattle.fv_top.proofs.Stopping.{others_told, rest_told, within_told}
 
@@ -31,7 +31,7 @@ ends_later k a b c (s ∷ rest) e asked g (later p h) = later p (ends_later k a 
 cause_later : (words : List (List ℕ)) (a b c : DeskState) (e : Refusal) (asked : List Request) → GoesOn b c
     → HasCause words a b e asked → HasCause words a c e asked
 cause_later words a b c e asked g (bad_words h) = bad_words h
-cause_later words a b c e asked g (of_job job asks h) = of_job job asks (ends_later (rules_of job a) a b c (steps_of job) e asked g h)
+cause_later words a b c e asked g (of_job job asks h) = of_job job asks (ends_later (rules_of job a) a b c (stages_of job) e asked g h)
 
 -- the line of a refusal, whether or not the report failed
 pub line_reported : (r : Result (Unit {0}) Failed) (refusal : Refusal) (old new : DeskState) → OnOk r (Appends Report (refused_line refusal) old new)

@@ -50,7 +50,7 @@ script_is name files controls text bytes r file e is = record {
 pub script_none : (files : List File) (controls : List ControlInfo) → HasScript None files controls (Ok [])
 script_none files controls = record { bytes = None; file = refl; is = refl }
 
--- the refusals of scripts are those of their step, but want of memory
+-- the refusals of scripts are those of their stage, but want of memory
 pub script_refused : (e : ScriptRefusal) (r : Refusal) (Q : Type 0) → r ≡ of_script e → (IsOfScript e → Q) → (r ≡ NoMemory) ⊎ (IsScriptRefusal r × Q)
 script_refused (lines.TextTooLong role) r Q is q = rw is (inr (refl, q tt))
 script_refused (lines.ControlLine line) r Q is q = rw is (inr (refl, q tt))

@@ -21,13 +21,13 @@ use Rattle.fv_top_words.specs.declared.manner.InputKind.{InputKind}
 use Rattle.fv_top_rack.specs.Kinds.{IsOfKind}
 use Rattle.fv_top_files.specs.declared.incoming.Incoming.{Incoming}
 use Rattle.fv_top_files.specs.headline.Inputs.{truncated, read_bytes}
-use Rattle.fv_top.specs.headline.Steps.{Rules, Turn, fault_of, reads, writes, Ends}
+use Rattle.fv_top.specs.headline.Stages.{Rules, Turn, fault_of, reads, writes, Ends}
 use Rattle.fv_top_files.specs.headline.Loading.{HasInput, LeavesRest, ReadsWithin, IsRest, IsWithin}
-use Rattle.fv_top.specs.headline.Promise.{Asks, Write, Tell, rules_of, HasCause, bad_words, of_job, HasRefusal, steps_of}
+use Rattle.fv_top.specs.headline.Promise.{Asks, Write, Tell, rules_of, HasCause, bad_words, of_job, HasRefusal, stages_of}
 use Rattle.fv_top.specs.headline.Promise.{CutsShort, IsReadBy, IsRead, KeepsOthers}
-use Rattle.fv_top.specs.inner.Running.{Reaches, CountsFaultOf, StopsBefore, Checks, StopsCheck, Makes, StopsMake, steps_before, EndsDone, Stopped}
+use Rattle.fv_top.specs.inner.Running.{Reaches, CountsFaultOf, StopsBefore, Checks, StopsCheck, Makes, StopsMake, stages_before, EndsDone, Stopped}
 use Rattle.fv_top.proofs.Reaching.{reaches_nothing}
-use Rattle.fv_top.proofs.StepLaws.{OfSome, Judges, ends_more, judged_in}
+use Rattle.fv_top.proofs.StageLaws.{OfSome, Judges, ends_more, judged_in}
 
 -- a line of the report leaves the others alone
 pub others_told : {Reads : Role → Type 0} {line : List ℕ} {a b c : DeskState} → GoesOn a b → KeepsOthers Reads a b → Appends Report line b c
@@ -96,9 +96,9 @@ no_program Alone coding.Au place is = absurd cc
 no_program Rack coding.Wave place is = absurd cc
 no_program Rack coding.Au place is = absurd cc
 
--- before anything is written, of its steps only that of the head judges it so
+-- before anything is written, of its stages only that of the head judges it so
 head_judged : (run : Run) (a : DeskState) (c : Coding) (place : ℕ) → IsTrue a.tells →
-    OfSome (Judges (rules_of (Playing run) a) (truncated c place)) steps_before
+    OfSome (Judges (rules_of (Playing run) a) (truncated c place)) stages_before
     → HasInput run.manner.input run.input a.files (Err (truncated c place))
 head_judged run a coding.Wave place t (inl h) = absurd (no_program run.manner.program coding.Wave place h.0)
 head_judged run a coding.Wave place t (inr (inl h)) = let no = h.0 in absurd cc
@@ -112,14 +112,14 @@ head_judged run a coding.Au place t (inr (inr (inr (inl h)))) = let no = h.0 in 
 head_judged run a coding.Au place t (inr (inr (inr (inr h)))) = absurd h
 
 head_cut : (run : Run) (a b : DeskState) (e : Refusal) (c : Coding) (place : ℕ) (asked : List Request) → e ≡ truncated c place → IsTrue a.tells
-    → Ends (rules_of (Playing run) a) a b steps_before e asked → HasInput run.manner.input run.input a.files (Err e)
+    → Ends (rules_of (Playing run) a) a b stages_before e asked → HasInput run.manner.input run.input a.files (Err e)
 head_cut run a b e c place asked is t h =
-    let head = head_judged run a c place t (judged_cut (rules_of (Playing run) a) a b steps_before e c place asked is h) in
+    let head = head_judged run a c place t (judged_cut (rules_of (Playing run) a) a b stages_before e c place asked is h) in
     subst (λ (r : Refusal). HasInput run.manner.input run.input a.files (Err r)) (sym is) head
 
 -- a check reads no input
 check_judged : (name : List ℕ) (a : DeskState) (c : Coding) (place : ℕ) →
-    OfSome (Judges (rules_of (Checking name) a) (truncated c place)) (steps_of (Checking name)) → ⊥
+    OfSome (Judges (rules_of (Checking name) a) (truncated c place)) (stages_of (Checking name)) → ⊥
 check_judged name a coding.Wave place (inl h) = let no = h.0 in absurd cc
 check_judged name a coding.Wave place (inr (inl h)) = let no = h.0 in absurd cc
 check_judged name a coding.Wave place (inr (inr h)) = h
@@ -129,7 +129,7 @@ check_judged name a coding.Au place (inr (inr h)) = h
 
 -- and neither does a make
 make_judged : (voices frames workers : ℕ) (a : DeskState) (c : Coding) (place : ℕ)
-    → OfSome (Judges (rules_of (Making voices frames workers) a) (truncated c place)) (steps_of (Making voices frames workers)) → ⊥
+    → OfSome (Judges (rules_of (Making voices frames workers) a) (truncated c place)) (stages_of (Making voices frames workers)) → ⊥
 make_judged voices frames workers a coding.Wave place (inl h) = let no = h.0 in absurd cc
 make_judged voices frames workers a coding.Wave place (inr (inl h)) = let no = h.0 in absurd cc
 make_judged voices frames workers a coding.Wave place (inr (inr h)) = h
@@ -159,7 +159,7 @@ stopped_usage words a cause is =
     stopped_by words a a (Usage cause) [] (reaches_nothing (IsRead words) a) (bad_words is) (λ c place cut. absurd (no_usage c place cause cut))
     (λ r other. refl)
 
--- a step that reads cannot go on
+-- a stage that reads cannot go on
 pub stopped_before : {words : List (List ℕ)} {run : Run} {a b : DeskState} {e : Refusal} → Asks words (Playing run) → StopsBefore run a b e
     → Stopped words a b e
 stopped_before {words} {run} {a} {b} {e} asks s =
@@ -169,7 +169,7 @@ stopped_before {words} {run} {a} {b} {e} asks s =
       requests = p.requests;
       left = λ t x none. p.left t x (λ is. none (Playing run, asks, is));
     } in
-    let ends = ends_more (rules_of (Playing run) a) a b steps_before (Write ∷ Tell ∷ []) e s.asked s.ends in
+    let ends = ends_more (rules_of (Playing run) a) a b stages_before (Write ∷ Tell ∷ []) e s.asked s.ends in
     stopped_by words a b e s.asked reaches (of_job (Playing run) asks ends)
     (λ c place is t. (run, asks, inl (head_cut run a b e c place s.asked is t s.ends)))
     s.faults
@@ -183,7 +183,7 @@ stopped_check {words} {name} {a} {b} {e} asks s = record {
   others = others_for words asks s.others;
   cause = record { asked = to_read Program name ∷ []; requests = s.requests; cause = of_job (Checking name) asks s.ends };
   output = inl s.output;
-  cut = λ c place is t. absurd (check_judged name a c place (judged_cut (rules_of (Checking name) a) a b (steps_of (Checking name)) e c place _ is s.ends));
+  cut = λ c place is t. absurd (check_judged name a c place (judged_cut (rules_of (Checking name) a) a b (stages_of (Checking name)) e c place _ is s.ends));
   begun = s.begun;
   appended = s.appended;
   is_begun = ⊎_elim inl (λ h. inr (h.0, (Checking name, asks, h.1))) s.is_begun;
@@ -215,7 +215,7 @@ stopped_make {words} {voices} {frames} {workers} {a} {b} {e} asks s = record {
   cause = record { asked = []; requests = s.requests; cause = of_job (Making voices frames workers) asks s.ends };
   output = inl s.output;
   cut = λ c place is t. absurd (make_judged voices frames workers a c place
-      (judged_cut (rules_of (Making voices frames workers) a) a b (steps_of (Making voices frames workers)) e c place _ is s.ends));
+      (judged_cut (rules_of (Making voices frames workers) a) a b (stages_of (Making voices frames workers)) e c place _ is s.ends));
   begun = s.begun;
   appended = s.appended;
   is_begun = ⊎_elim inl (λ h. inr (h.0, (Making voices frames workers, asks, h.1))) s.is_begun;

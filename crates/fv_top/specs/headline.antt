@@ -1,4 +1,4 @@
 pub mod Meant
-pub mod Steps
+pub mod Stages
 pub mod Promise
 pub mod Played

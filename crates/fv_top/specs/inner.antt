@@ -3,4 +3,4 @@ pub mod Prepared
 pub mod Running
 pub mod Played
 pub mod Promise
-pub mod Steps
+pub mod Stages

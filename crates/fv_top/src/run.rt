@@ -30,7 +30,7 @@ fn refuse<D: Desk>(desk: &mut D, refusal: &Refusal)
     let _ = report_refusal(desk, refusal);
 }
 
-// What the words ask for, one step after another.
+// What the words ask for, one stage after another.
 fn perform<R: Threads + Wait + Sync, D: Desk, G: Gate + Sync>(
     rt: &R,
     alloc: Global,
@@ -125,8 +125,8 @@ pub fn run_faustvec<R: Threads + Wait + Sync, D: Desk, G: Gate + Sync>(
     ensures blocks { IfDone result (λ tally. HasBlocks (map string_bytes words.now) tally (D.state desk.old) (G.told gate.old) (G.told gate.new)) }
     ensures so_far { IfRefused result (λ refusal. HasBlocksSoFar (map string_bytes words.now) refusal (D.state desk.old) (D.state desk.new)
         (G.told gate.old) (G.told gate.new)) }
-    // Every other answer has its stated cause in the first step that cannot go on, or is want of memory; and the desk was
-    // asked for the files up to that step, in order, and for no other.
+    // Every other answer has its stated cause in the first stage that cannot go on, or is want of memory; and the desk was
+    // asked for the files up to that stage, in order, and for no other.
     ensures cause { IfRefused result (IsRefusedFor (map string_bytes words.now) (D.state desk.old) (D.state desk.new)) }
     // A fault that was counted is the answer.
     ensures hands_on { IfRefused result (λ refusal. HandsOn refusal (D.state desk.old) (D.state desk.new)) }

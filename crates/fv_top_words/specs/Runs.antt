@@ -18,6 +18,6 @@ pub record AreValid (s : Settings) : Type 0 where
   pub frames : IfSome s.frames (λ n. n < 2 ^ 32)
   pub rate : IfSome s.rate (λ n. (1 ≤ n) × (n < 2 ^ 32))
 
--- Settings that are answered are sound.
+-- Settings that are answered are valid.
 abbrev pub KeepRanges : Type 0
 KeepRanges = (n : Numbers) (s : Settings) → settings_of n ≡ Ok s → AreValid s

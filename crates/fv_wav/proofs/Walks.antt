@@ -6,12 +6,12 @@ use Rattle.fv_wav.specs.headline.Reading.{rest_of, next, kind_of}
 use Rattle.fv_wav.specs.Stopping.{Passes, Stops, Follows, Continues, walk_from, chunk_from}
 use Rattle.fv_wav.specs.declared.head.Kind.{Kind}
 use Rattle.fv_wav.specs.declared.chunks.Walk.{Walk}
-use Rattle.fv_wav.specs.declared.chunks.Step.{Step}
+use Rattle.fv_wav.specs.declared.chunks.NextChunk.{NextChunk}
 use Rattle.fv_wav.specs.declared.refusal.WaveRefusal.{WaveRefusal}
 use Rattle.fv_wav.proofs.lemmas.Steps.{passes_then, stops_then}
 use Rattle.fv_wav.proofs.ChunkKinds.{from_name}
 
-pub continues : (w : Walk) (k : Kind) (s : Step) (name : List ℕ) (c : DeskState) {a b : DeskState} → length name ≡ 4 → k ≡ kind_of name
+pub continues : (w : Walk) (k : Kind) (s : NextChunk) (name : List ℕ) (c : DeskState) {a b : DeskState} → length name ≡ 4 → k ≡ kind_of name
     → Passes (length name) (next (length name) (rest_of w.place (a.left Input)) ≡ Ok (name, rest_of (w.place + length name) (b.left Input))) a b
     → Follows w k s b c → Continues w s a c
 continues w k s name c m e p f = record {

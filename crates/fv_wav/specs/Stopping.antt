@@ -11,8 +11,8 @@ use Rattle.fv_wav.specs.declared.head.Head.{Head}
 use Rattle.fv_wav.specs.declared.head.Format.{Format}
 use Rattle.fv_wav.specs.declared.head.Kind.{Kind}
 use Rattle.fv_wav.specs.declared.chunks.Walk.{Walk}
-use Rattle.fv_wav.specs.declared.chunks.Step.{Step}
-use Rattle.fv_wav.specs.declared.chunks.Step.TheVariants as step
+use Rattle.fv_wav.specs.declared.chunks.NextChunk.{NextChunk}
+use Rattle.fv_wav.specs.declared.chunks.NextChunk.TheVariants as next_chunk
 use Rattle.fv_wav.specs.declared.refusal.WaveRefusal.{WaveRefusal}
 use Rattle.fv_wav.specs.declared.refusal.WaveRefusal.TheVariants.{ReadFault, NotWave, WaveTruncated, WaveFormat, WaveChunks}
 
@@ -69,32 +69,32 @@ abbrev pub chunk_from : Walk → Kind → List ℕ → Result Head WaveRefusal
 chunk_from w k bytes = chunk_at w.room k w.seen w.place (rest_of (w.place + 4) bytes)
 
 -- the reading behind a chunk: its head, or that of the chunks from there on
-abbrev pub continued : Step → List ℕ → Result Head WaveRefusal
-continued (step.Data head) bytes = Ok head
-continued (step.Chunk next) bytes = walk_from next bytes
+abbrev pub continued : NextChunk → List ℕ → Result Head WaveRefusal
+continued (next_chunk.Data head) bytes = Ok head
+continued (next_chunk.Chunk next) bytes = walk_from next bytes
 
 -- where a step ends
-abbrev pub step_place : Step → ℕ
-step_place (step.Data head) = head.place
-step_place (step.Chunk next) = next.place
+abbrev pub next_place : NextChunk → ℕ
+next_place (next_chunk.Data head) = head.place
+next_place (next_chunk.Chunk next) = next.place
 
 -- what a step makes of the walk
-abbrev pub IsStep : Walk → Step → Type 0
-IsStep w (step.Data head) = IsHead head
-IsStep w (step.Chunk next) = (next.room + 1 ≡ w.room) × IfSome next.seen IsFormat
+abbrev pub IsNextChunk : Walk → NextChunk → Type 0
+IsNextChunk w (next_chunk.Data head) = IsHead head
+IsNextChunk w (next_chunk.Chunk next) = (next.room + 1 ≡ w.room) × IfSome next.seen IsFormat
 
 -- a step over a chunk whose name is read: how many bytes it takes, and what it leads to
-pub record Follows (w : Walk) (k : Kind) (s : Step) (old new : DeskState) : Type 0 where
+pub record Follows (w : Walk) (k : Kind) (s : NextChunk) (old new : DeskState) : Type 0 where
   pub n : ℕ
   pub few : n ≤ 2 ^ 32 + 4
-  pub place : step_place s ≡ w.place + 4 + n
-  pub is : IsStep w s
+  pub place : next_place s ≡ w.place + 4 + n
+  pub is : IsNextChunk w s
   pub passes : Passes n (chunk_from w k (old.left Input) ≡ continued s (new.left Input)) old new
 
 -- a step over a whole chunk
-pub record Continues (w : Walk) (s : Step) (old new : DeskState) : Type 0 where
+pub record Continues (w : Walk) (s : NextChunk) (old new : DeskState) : Type 0 where
   pub n : ℕ
   pub few : n ≤ 2 ^ 32 + 8
-  pub place : step_place s ≡ w.place + n
-  pub is : IsStep w s
+  pub place : next_place s ≡ w.place + n
+  pub is : IsNextChunk w s
   pub passes : Passes n (walk_from w (old.left Input) ≡ continued s (new.left Input)) old new

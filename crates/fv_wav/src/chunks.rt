@@ -27,7 +27,7 @@ pub struct Walk {
 
 /// What the next chunk leads to.
 #[derive(Clone, Copy, Debug)]
-pub enum Step {
+pub enum NextChunk {
     Data(Head),
     Chunk(Walk),
 }
@@ -80,8 +80,8 @@ pub fn read_head_behind<D: Desk>(desk: &mut D, begun: &[u8]) -> Result<Head, Wav
     };
     'chunks: loop {
         match next_chunk(desk, walk)? {
-            Step::Data(head) => return Ok(head),
-            Step::Chunk(next) => walk = next,
+            NextChunk::Data(head) => return Ok(head),
+            NextChunk::Chunk(next) => walk = next,
         }
     }
 }
@@ -113,7 +113,7 @@ fn is_form(form: &[u8]) -> bool
 }
 
 // The next chunk.
-fn next_chunk<D: Desk>(desk: &mut D, walk: Walk) -> Result<Step, WaveRefusal>
+fn next_chunk<D: Desk>(desk: &mut D, walk: Walk) -> Result<NextChunk, WaveRefusal>
     requires place { walk.place < 2 ^ 59 }
     requires seen { IfSome walk.seen IsFormat }
     ensures ok { IfOk result (λ step. Continues walk step (D.state desk.old) (D.state desk.new)) }
@@ -129,7 +129,7 @@ fn next_chunk<D: Desk>(desk: &mut D, walk: Walk) -> Result<Step, WaveRefusal>
 }
 
 // A `data` chunk, behind its name.
-fn read_data<D: Desk>(desk: &mut D, walk: Walk) -> Result<Step, WaveRefusal>
+fn read_data<D: Desk>(desk: &mut D, walk: Walk) -> Result<NextChunk, WaveRefusal>
     requires place { walk.place < 2 ^ 59 }
     requires seen { IfSome walk.seen IsFormat }
     ensures ok { IfOk result (λ step. Follows walk kind.Data step (D.state desk.old) (D.state desk.new)) }
@@ -142,7 +142,7 @@ fn read_data<D: Desk>(desk: &mut D, walk: Walk) -> Result<Step, WaveRefusal>
 }
 
 // A `data` chunk behind this format, behind its name.
-fn read_samples<D: Desk>(desk: &mut D, walk: Walk, format: Format) -> Result<Step, WaveRefusal>
+fn read_samples<D: Desk>(desk: &mut D, walk: Walk, format: Format) -> Result<NextChunk, WaveRefusal>
     requires place { walk.place < 2 ^ 59 }
     requires seen { walk.seen ≡ Some format }
     requires format { IsFormat format }
@@ -155,7 +155,7 @@ fn read_samples<D: Desk>(desk: &mut D, walk: Walk, format: Format) -> Result<Ste
             place: walk.place + 4,
         });
     }
-    Ok(Step::Data(Head {
+    Ok(NextChunk::Data(Head {
         channels: format.channels,
         rate: format.rate,
         bits: format.bits,
@@ -165,7 +165,7 @@ fn read_samples<D: Desk>(desk: &mut D, walk: Walk, format: Format) -> Result<Ste
 }
 
 // A `fmt ` chunk, behind its name.
-fn see_format<D: Desk>(desk: &mut D, walk: Walk) -> Result<Step, WaveRefusal>
+fn see_format<D: Desk>(desk: &mut D, walk: Walk) -> Result<NextChunk, WaveRefusal>
     requires place { walk.place < 2 ^ 59 }
     requires seen { IfSome walk.seen IsFormat }
     ensures ok { IfOk result (λ step. Follows walk kind.Format step (D.state desk.old) (D.state desk.new)) }
@@ -178,7 +178,7 @@ fn see_format<D: Desk>(desk: &mut D, walk: Walk) -> Result<Step, WaveRefusal>
 }
 
 // The first `fmt ` chunk, behind its name.
-fn first_format<D: Desk>(desk: &mut D, walk: Walk) -> Result<Step, WaveRefusal>
+fn first_format<D: Desk>(desk: &mut D, walk: Walk) -> Result<NextChunk, WaveRefusal>
     requires place { walk.place < 2 ^ 59 }
     requires seen { walk.seen ≡ None }
     ensures ok { IfOk result (λ step. Follows walk kind.Format step (D.state desk.old) (D.state desk.new)) }
@@ -188,7 +188,7 @@ fn first_format<D: Desk>(desk: &mut D, walk: Walk) -> Result<Step, WaveRefusal>
         return Err(WaveRefusal::WaveChunks { place: walk.place });
     }
     let (format, place) = read_format(desk, walk.place + 4)?;
-    Ok(Step::Chunk(Walk {
+    Ok(NextChunk::Chunk(Walk {
         room: walk.room - 1,
         seen: Some(format),
         place,
@@ -196,7 +196,7 @@ fn first_format<D: Desk>(desk: &mut D, walk: Walk) -> Result<Step, WaveRefusal>
 }
 
 // A chunk that is passed over, behind its name.
-fn pass_other<D: Desk>(desk: &mut D, walk: Walk) -> Result<Step, WaveRefusal>
+fn pass_other<D: Desk>(desk: &mut D, walk: Walk) -> Result<NextChunk, WaveRefusal>
     requires place { walk.place < 2 ^ 59 }
     requires seen { IfSome walk.seen IsFormat }
     ensures ok { IfOk result (λ step. Follows walk kind.Other step (D.state desk.old) (D.state desk.new)) }
@@ -208,7 +208,7 @@ fn pass_other<D: Desk>(desk: &mut D, walk: Walk) -> Result<Step, WaveRefusal>
     let size = read_u32(desk, walk.place + 4)?;
     let all = u64::from(size) + u64::from(size % 2);
     pass(desk, walk.place + 4 + 4, all)?;
-    Ok(Step::Chunk(Walk {
+    Ok(NextChunk::Chunk(Walk {
         room: walk.room - 1,
         seen: walk.seen,
         place: walk.place + 8 + all,

@@ -8,7 +8,7 @@ mod head;
 mod input;
 mod laws;
 mod refusal;
-mod writing;
+mod writer;
 
 pub use chunks::{read_head, read_head_behind};
 pub use frames::{decode, read_frames};
@@ -16,4 +16,4 @@ pub use fv_pcm::data_length;
 pub use head::Head;
 pub use laws::{ends_at_its_length, one_outcome, samples_follow, written_is_read};
 pub use refusal::{WaveRefusal, WriteRefusal};
-pub use writing::{write_frames, write_head, write_pad};
+pub use writer::{write_frames, write_head, write_pad};

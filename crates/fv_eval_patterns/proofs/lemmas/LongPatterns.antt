@@ -18,15 +18,15 @@ use Rattle.fv_parse_grammar.specs.declared.form.Operator.{Operator}
 use Rattle.fv_parse.specs.TreeId.{TreeId}
 use Rattle.fv_eval_scopes.specs.declared.value.Value as code_value
 use Rattle.fv_eval_scopes.specs.declared.value.Value.TheVariants as value
-use Rattle.fv_eval_patterns.specs.declared.matching.Pair.{Pair}
+use Rattle.fv_eval_patterns.specs.declared.value_patterns.Pair.{Pair}
 use Rattle.fv_eval_scopes.specs.declared.memo.Known.{Known}
 use Rattle.fv_eval_scopes.specs.declared.value.Binding.{Binding}
 use Rattle.fv_eval_patterns.specs.declared.trials.Outcome.{Outcome}
 use Rattle.fv_eval_patterns.specs.declared.trials.Outcome.TheVariants as outcomes
 use Rattle.fv_eval_patterns.specs.declared.trials.Trial.{Trial}
 use Rattle.fv_eval_patterns.specs.Remembered.{Remembered, nothing}
-use Rattle.fv_eval_patterns.specs.declared.trying.Task.{Task}
-use Rattle.fv_eval_patterns.specs.declared.trying.Task.TheVariants.{Try, Note}
+use Rattle.fv_eval_patterns.specs.declared.long_patterns.Task.{Task}
+use Rattle.fv_eval_patterns.specs.declared.long_patterns.Task.TheVariants.{Try, Note}
 use Rattle.fv_rules.specs.headline.Values.{Value, Flat}
 use Rattle.fv_rules.specs.headline.Matching.{Bindings, and_then, is_number, parts_without, matched, all_matched}
 use Rattle.fv_eval_scopes.specs.Shows.{World, ShowsBindings, ShowsValue, ShowsValues}

@@ -25,7 +25,7 @@ use Rattle.fv_parse.specs.Trees.{Parsed, size_of, tree_in, start_in}
 use Rattle.fv_eval_scopes.specs.declared.value.Value as code_value
 use Rattle.fv_eval_scopes.specs.declared.value.Value.TheVariants as value
 use Rattle.fv_eval_scopes.specs.declared.value.Binding as code_binding
-use Rattle.fv_eval_patterns.specs.declared.matching.Pair.{Pair}
+use Rattle.fv_eval_patterns.specs.declared.value_patterns.Pair.{Pair}
 use Rattle.fv_eval_scopes.specs.declared.memo.Known.{Known}
 use Rattle.fv_rules.specs.headline.Values.{Value, Flat, Abstraction, Rules}
 use Rattle.fv_rules.specs.Numbers.{number_of}

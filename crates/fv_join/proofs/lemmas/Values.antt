@@ -11,7 +11,7 @@ use Rattle.fv_signal.specs.declared.signal.Signal.TheVariants.{Input, Const, Con
 use Rattle.fv_signal.specs.headline.Value.{Graph, signal_at, value, NamesWithin, IsGraph}
 use Rattle.fv_signal.proofs.lemmas.Values.{values_are_given}
 use Rattle.fv_signal.proofs.lemmas.Solutions.{solutions_are_values}
-use Rattle.fv_join.specs.declared.copying.Offsets.{Offsets}
+use Rattle.fv_join.specs.declared.graph_copy.Offsets.{Offsets}
 use Rattle.fv_join.specs.Jobs.{NamesBelow, ReadsWithin}
 use Rattle.fv_join.specs.Joined.{part_frames, part_controls}
 use Rattle.fv_join.specs.inner.Copied.{IsImage, IsCopied}

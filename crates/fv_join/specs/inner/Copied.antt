@@ -7,7 +7,7 @@ use Rattle.fv_signal.specs.declared.signal.Signal.{Signal}
 use Rattle.fv_signal.specs.declared.signal.Signal.TheVariants.{Input, Const, Control, Point, Delay, Back, Member, Read, Write}
 use Rattle.fv_signal.specs.headline.Value.{Graph, members, definition, table_of, IsGraph}
 use Rattle.fv_share.specs.Drafts.{Draft, AreClosed, BacksWithin, put, graph_of}
-use Rattle.fv_join.specs.declared.copying.Offsets.{Offsets}
+use Rattle.fv_join.specs.declared.graph_copy.Offsets.{Offsets}
 
 -- a signal over the images of its operands, with its numbers behind those that stand before
 abbrev pub renumbered : (p : ℕ → ℕ) → Offsets → Signal → Signal

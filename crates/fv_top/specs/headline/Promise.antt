@@ -32,7 +32,7 @@ use Rattle.fv_pcm.specs.declared.coding.Coding.{Coding}
 use Rattle.fv_top_files.specs.headline.Loading.{is_of_head, HasScript, HasInput, LeavesRest, ReadsWithin, IsThere, reading}
 use Rattle.fv_top.specs.headline.Meant.{Meant, run_meant, check_meant, make_meant, written_by}
 use Rattle.fv_top_report.specs.headline.Lines.{row_of, refused_line}
-use Rattle.fv_top.specs.headline.Steps.{Turn, reads, writes, Rules, Ends, Stops, PassesAll, all_requests}
+use Rattle.fv_top.specs.headline.Stages.{Turn, reads, writes, Rules, Ends, Stops, PassesAll, all_requests}
 
 -- the words are of the form, and ask for this
 abbrev pub Asks : List (List ℕ) → Job → Type 0
@@ -95,24 +95,24 @@ meant_of (Playing run) files can = meant can.0
 meant_of (Checking name) files can = check_meant can.compiled
 meant_of (Making voices frames workers) files can = make_meant can.0 voices frames
 
--- ---- its steps, in order
+-- ---- its stages, in order
 
-pub data Step : Type 0 where
+pub data Stage : Type 0 where
   -- the program's file is read and judged
-  ReadProgram : Step
+  ReadProgram : Stage
   -- the script is read and judged
-  ReadScript : Step
+  ReadScript : Stage
   -- the head of the input is read and judged
-  ReadHead : Step
+  ReadHead : Stage
   -- the format of what the program makes on the input is judged, and all memory of the run is taken
-  Fit : Step
+  Fit : Stage
   -- the input is read, played and written block by block
-  Write : Step
+  Write : Stage
   -- and it is reported
-  Tell : Step
+  Tell : Stage
 
--- what a step asks the desk for
-abbrev pub requests_of : Job → Step → List Request
+-- what a stage asks the desk for
+abbrev pub requests_of : Job → Stage → List Request
 requests_of (Playing run) ReadProgram = to_read Program run.program ∷ []
 requests_of (Playing run) ReadScript = reading Controls run.controls
 requests_of (Playing run) ReadHead = reading Input run.input
@@ -120,8 +120,8 @@ requests_of (Playing run) Write = to_write Output run.output ∷ []
 requests_of (Checking name) ReadProgram = to_read Program name ∷ []
 requests_of job s = []
 
--- the roles that a step reads or writes: a make reads no file
-abbrev pub TakesTurn : Job → Step → Turn → Type 0
+-- the roles that a stage reads or writes: a make reads no file
+abbrev pub TakesTurn : Job → Stage → Turn → Type 0
 TakesTurn (Playing run) ReadProgram t = t ≡ reads Program
 TakesTurn (Playing run) ReadScript t = (t ≡ reads Controls) × IsSome run.controls
 TakesTurn (Playing run) ReadHead t = (t ≡ reads Input) × IsSome run.input
@@ -136,7 +136,7 @@ HasRoom (Playing run) old role = (p : Plays run old.files) → length (written_b
 HasRoom job old role = (can : CanDo job old.files) → length (written_by (meant_of job old.files can) old role) ≤ old.room role
 
 -- what a turn needs of the desk as it was at first: no call of the role that fails from then on, its file, and room
-abbrev pub IsAnswered : Job → DeskState → Step → Turn → Type 0
+abbrev pub IsAnswered : Job → DeskState → Stage → Turn → Type 0
 IsAnswered (Playing run) old ReadProgram t = IsUnfailing Program old × IsThere (Some run.program) old.files
 IsAnswered (Playing run) old ReadScript t = IsUnfailing Controls old × IsThere run.controls old.files
 IsAnswered (Playing run) old ReadHead t = IsUnfailing Input old × IsThere run.input old.files
@@ -150,82 +150,82 @@ IsAnswered job old s t = Unit {0}
 abbrev pub is_of_script : ℕ → Bool
 is_of_script n = (n == 4) || (nat_le 30 n && nat_le n 33)
 
--- the numbers of the refusals of what a step judges, where the program's file is of this kind
-abbrev pub is_of_step : ProgramKind → Step → ℕ → Bool
-is_of_step kind ReadProgram n = is_of_kind kind n
-is_of_step kind ReadScript n = is_of_script n
-is_of_step kind ReadHead n = is_of_head n
-is_of_step kind Fit n = (n == 29) || (n == 38) || (n == 39)
-is_of_step kind Write n = (n == 35) || (n == 45)
-is_of_step kind Tell n = false
+-- the numbers of the refusals of what a stage judges, where the program's file is of this kind
+abbrev pub is_of_stage : ProgramKind → Stage → ℕ → Bool
+is_of_stage kind ReadProgram n = is_of_kind kind n
+is_of_stage kind ReadScript n = is_of_script n
+is_of_stage kind ReadHead n = is_of_head n
+is_of_stage kind Fit n = (n == 29) || (n == 38) || (n == 39)
+is_of_stage kind Write n = (n == 35) || (n == 45)
+is_of_stage kind Tell n = false
 
 -- what the program's file of a job is: one text, but for a run that says otherwise
 abbrev pub kind_of : Job → ProgramKind
 kind_of (Playing run) = run.manner.program
 kind_of job = Alone
 
-abbrev pub HasRefusal : ProgramKind → Step → Refusal → Type 0
-HasRefusal kind s refusal = IsTrue (is_of_step kind s (row_of refusal).number)
+abbrev pub HasRefusal : ProgramKind → Stage → Refusal → Type 0
+HasRefusal kind s refusal = IsTrue (is_of_stage kind s (row_of refusal).number)
 
--- The steps that take memory. Once it was begun to write, none is wanted.
-abbrev pub WantsMemory : Step → Type 0
+-- The stages that take memory. Once it was begun to write, none is wanted.
+abbrev pub WantsMemory : Stage → Type 0
 WantsMemory Write = ⊥
 WantsMemory Tell = ⊥
 WantsMemory s = Unit {0}
 
--- what a step judges passes
-abbrev pub StepPasses : Job → List File → Step → Type 0
-StepPasses (Playing run) files ReadProgram = HasProgramOf run files
-StepPasses (Playing run) files ReadScript =
+-- what a stage judges passes
+abbrev pub StagePasses : Job → List File → Stage → Type 0
+StagePasses (Playing run) files ReadProgram = HasProgramOf run files
+StagePasses (Playing run) files ReadScript =
     (p : HasProgramOf run files) × (changes : List Change) × HasScript run.controls files p.compiled.controls (Ok changes)
-StepPasses (Playing run) files ReadHead = (source : Source) × HasInput run.manner.input run.input files (Ok source)
-StepPasses (Playing run) files Fit = Plays run files
-StepPasses (Playing run) files Write = (p : Plays run files) × IsWhole p
-StepPasses (Checking name) files ReadProgram = HasProgram TextIs name files
-StepPasses job files s = Unit {0}
+StagePasses (Playing run) files ReadHead = (source : Source) × HasInput run.manner.input run.input files (Ok source)
+StagePasses (Playing run) files Fit = Plays run files
+StagePasses (Playing run) files Write = (p : Plays run files) × IsWhole p
+StagePasses (Checking name) files ReadProgram = HasProgram TextIs name files
+StagePasses job files s = Unit {0}
 
--- what a step judges is refused for this: a make refuses nothing, since the text of so many voices is a program
-abbrev pub StepRefuses : Job → List File → Step → Refusal → Type 0
-StepRefuses (Playing run) files ReadProgram refusal = HasNoProgram (FileIs run.manner.program) run.program files refusal
-StepRefuses (Playing run) files ReadScript refusal = (p : HasProgramOf run files) × HasScript run.controls files p.compiled.controls (Err refusal)
-StepRefuses (Playing run) files ReadHead refusal = HasInput run.manner.input run.input files (Err refusal)
-StepRefuses (Playing run) files Fit refusal =
+-- what a stage judges is refused for this: a make refuses nothing, since the text of so many voices is a program
+abbrev pub StageRefuses : Job → List File → Stage → Refusal → Type 0
+StageRefuses (Playing run) files ReadProgram refusal = HasNoProgram (FileIs run.manner.program) run.program files refusal
+StageRefuses (Playing run) files ReadScript refusal = (p : HasProgramOf run files) × HasScript run.controls files p.compiled.controls (Err refusal)
+StageRefuses (Playing run) files ReadHead refusal = HasInput run.manner.input run.input files (Err refusal)
+StageRefuses (Playing run) files Fit refusal =
     (p : HasProgramOf run files) × (source : Source) × HasInput run.manner.input run.input files (Ok source)
     × (format_of (coding_of run.manner.output) run.settings p.compiled.diagram source.head ≡ Err refusal)
-StepRefuses (Playing run) files Write refusal = (p : Plays run files) × (cut_in p.format p.source ≡ Some refusal)
-StepRefuses (Checking name) files ReadProgram refusal = HasNoProgram TextIs name files refusal
-StepRefuses job files s refusal = ⊥
+StageRefuses (Playing run) files Write refusal = (p : Plays run files) × (cut_in p.format p.source ≡ Some refusal)
+StageRefuses (Checking name) files ReadProgram refusal = HasNoProgram TextIs name files refusal
+StageRefuses job files s refusal = ⊥
 
 -- it is known what they judge, which is nothing in a make
 abbrev pub IsKnown : Job → DeskState → Type 0
 IsKnown (Making voices frames workers) old = Unit {0}
 IsKnown job old = IsTrue old.tells
 
--- the steps
-abbrev pub steps_of : Job → List Step
-steps_of (Playing run) = ReadProgram ∷ ReadScript ∷ ReadHead ∷ Fit ∷ Write ∷ Tell ∷ []
-steps_of job = ReadProgram ∷ Tell ∷ []
+-- the stages
+abbrev pub stages_of : Job → List Stage
+stages_of (Playing run) = ReadProgram ∷ ReadScript ∷ ReadHead ∷ Fit ∷ Write ∷ Tell ∷ []
+stages_of job = ReadProgram ∷ Tell ∷ []
 
 -- and their rules
-abbrev pub rules_of : Job → DeskState → Rules Step
+abbrev pub rules_of : Job → DeskState → Rules Stage
 rules_of job old = record {
   requests = requests_of job;
   Takes = TakesTurn job;
   Answers = IsAnswered job old;
   Has = HasRefusal (kind_of job);
   Wants = WantsMemory;
-  Passes = StepPasses job old.files;
-  Refuses = StepRefuses job old.files;
+  Passes = StagePasses job old.files;
+  Refuses = StageRefuses job old.files;
   Known = IsKnown job old;
 }
 
 -- ---- how a run ends
 
--- Why it is refused, and what the desk was asked for by then: the words, or the first of the steps that cannot go on. Want
+-- Why it is refused, and what the desk was asked for by then: the words, or the first of the stages that cannot go on. Want
 -- of memory is free.
 pub data HasCause (words : List (List ℕ)) (old new : DeskState) : Refusal → List Request → Type 0 where
   bad_words : {cause : Cause} → job_in words ≡ Err cause → HasCause words old new (Usage cause) []
-  of_job : {refusal : Refusal} {asked : List Request} (job : Job) → Asks words job → Ends (rules_of job old) old new (steps_of job) refusal asked
+  of_job : {refusal : Refusal} {asked : List Request} (job : Job) → Asks words job → Ends (rules_of job old) old new (stages_of job) refusal asked
       → HasCause words old new refusal asked
 
 -- The desk was asked to begin just this, and the refusal has its cause.
@@ -248,7 +248,7 @@ LeavesRestOf job old new = Unit {0}
 pub record HasDone (words : List (List ℕ)) (frames : ℕ) (old new : DeskState) : Type 0 where
   pub job : Job
   pub asks : Asks words job
-  pub requests : new.requests ≡ old.requests ++ all_requests (rules_of job old) (steps_of job)
+  pub requests : new.requests ≡ old.requests ++ all_requests (rules_of job old) (stages_of job)
   pub faults : KeepsFaults old new
   pub begins : BeginsOutput job old new
   pub rest : IsTrue old.tells → LeavesRestOf job old new
@@ -343,16 +343,16 @@ IsDoneOrNoMemory status = IfRefused status (λ refusal. refusal ≡ NoMemory)
 -- or has no fault, it is done, unless memory runs out.
 abbrev pub IsComplete : (words : List (List ℕ)) → (old new : DeskState) → Status → Type 0
 IsComplete words old new status =
-    (job : Job) → Asks words job → IsKnown job old → PassesAll (rules_of job old) old new (steps_of job) → IsDoneOrNoMemory status
+    (job : Job) → Asks words job → IsKnown job old → PassesAll (rules_of job old) old new (stages_of job) → IsDoneOrNoMemory status
 
 -- refused for this, or out of memory
 abbrev pub IsRefusedOrNoMemory : Refusal → Status → Type 0
 IsRefusedOrNoMemory refusal status = (status ≡ Refused refusal) ⊎ (status ≡ Refused NoMemory)
 
--- Where the first step that cannot go on refuses for something, the run is refused for it, unless memory runs out.
+-- Where the first stage that cannot go on refuses for something, the run is refused for it, unless memory runs out.
 abbrev pub IsStrict : (words : List (List ℕ)) → (old new : DeskState) → Status → Type 0
 IsStrict words old new status =
-    (job : Job) (refusal : Refusal) → Asks words job → IsKnown job old → Stops (rules_of job old) old new (steps_of job) refusal
+    (job : Job) (refusal : Refusal) → Asks words job → IsKnown job old → Stops (rules_of job old) old new (stages_of job) refusal
     → IsRefusedOrNoMemory refusal status
 
 -- Words that are refused are refused for their cause.

@@ -9,7 +9,7 @@ use Rattle.fv_top.specs.headline.Promise.{Asks, is_of_script}
 abbrev pub OfWords : Job → (List (List ℕ) → Type 0) → Type 0
 OfWords job P = (words : List (List ℕ)) → Asks words job → P words
 
--- ---- the steps of a run, in order
+-- ---- the stages of a run, in order
 
 -- the refusal is one of a script
 abbrev pub IsScriptRefusal : Refusal → Type 0

@@ -16,8 +16,8 @@ use Rattle.fv_top.specs.headline.Meant.{check_meant, make_meant, made_sum, writt
 use Rattle.fv_top_text.specs.headline.Compiled.{Compiled}
 use Rattle.fv_top_text.specs.headline.Program.{TextIs}
 use Rattle.fv_top_report.specs.headline.Lines.{refused_line}
-use Rattle.fv_top.specs.headline.Steps.{Ends}
-use Rattle.fv_top.specs.headline.Promise.{HasProgram, Step, ReadProgram, ReadScript, ReadHead, Fit, rules_of, steps_of}
+use Rattle.fv_top.specs.headline.Stages.{Ends}
+use Rattle.fv_top.specs.headline.Promise.{HasProgram, Stage, ReadProgram, ReadScript, ReadHead, Fit, rules_of, stages_of}
 use Rattle.fv_top.specs.headline.Promise.{IsMade, IsReadBy, IsRead, KeepsOthers, IsBegunLine, IsRefusedFor, HasDone}
 use Rattle.fv_top.specs.headline.Promise.{LeavesOutput, CutsShort, Reports, IsFaultOf, HandsOn}
 
@@ -37,15 +37,15 @@ CountsFaultOf refusal old new = (r : Role) → (IsFaultOf r refusal → ⊥) →
 abbrev pub asked_before : Run → List Request
 asked_before run = to_read Program run.program ∷ (reading Controls run.controls ++ reading Input run.input)
 
--- the steps before anything is written
-abbrev pub steps_before : List Step
-steps_before = ReadProgram ∷ ReadScript ∷ ReadHead ∷ Fit ∷ []
+-- the stages before anything is written
+abbrev pub stages_before : List Stage
+stages_before = ReadProgram ∷ ReadScript ∷ ReadHead ∷ Fit ∷ []
 
--- A step that reads cannot go on.
+-- A stage that reads cannot go on.
 pub record StopsBefore (run : Run) (old new : DeskState) (refusal : Refusal) : Type 0 where
   pub asked : List Request
   pub reaches : Reaches (IsReadBy (Playing run)) asked old new
-  pub ends : Ends (rules_of (Playing run) old) old new steps_before refusal asked
+  pub ends : Ends (rules_of (Playing run) old) old new stages_before refusal asked
   pub faults : CountsFaultOf refusal old new
 
 -- ---- a check
@@ -64,7 +64,7 @@ pub record StopsCheck (name : List ℕ) (old new : DeskState) (refusal : Refusal
   pub goes_on : GoesOn old new
   pub others : KeepsOthers (IsReadBy (Checking name)) old new
   pub requests : new.requests ≡ old.requests ++ to_read Program name ∷ []
-  pub ends : Ends (rules_of (Checking name) old) old new (steps_of (Checking name)) refusal (to_read Program name ∷ [])
+  pub ends : Ends (rules_of (Checking name) old) old new (stages_of (Checking name)) refusal (to_read Program name ∷ [])
   pub output : KeepsOutput old new
   pub begun : List ℕ
   pub appended : IsTrue old.tells → new.written Report ≡ old.written Report ++ begun
@@ -90,7 +90,7 @@ pub record StopsMake (voices frames workers : ℕ) (old new : DeskState) (refusa
   pub goes_on : GoesOn old new
   pub others : KeepsOthers (IsReadBy (Making voices frames workers)) old new
   pub requests : new.requests ≡ old.requests ++ []
-  pub ends : Ends (rules_of (Making voices frames workers) old) old new (steps_of (Making voices frames workers)) refusal []
+  pub ends : Ends (rules_of (Making voices frames workers) old) old new (stages_of (Making voices frames workers)) refusal []
   pub output : KeepsOutput old new
   pub begun : List ℕ
   pub appended : IsTrue old.tells → new.written Report ≡ old.written Report ++ begun

@@ -7,7 +7,7 @@ use Rattle.fv_top.specs.Commands.{Playing}
 use Rattle.fv_top.specs.Sources.{found}
 use Rattle.fv_top.specs.Loading.{IsThere}
 use Rattle.fv_top.specs.headline.Promise.{Write, IsAnswered}
-use Rattle.fv_top.specs.headline.Steps.{Turn, reads, writes, more, none}
+use Rattle.fv_top.specs.headline.Stages.{Turn, reads, writes, more, none}
 use Rattle.fv_top_run_tests.specs.Sure.{IsSure}
 use Rattle.fv_top_run_tests.proofs.sure.run_sure.Goals as goal
 

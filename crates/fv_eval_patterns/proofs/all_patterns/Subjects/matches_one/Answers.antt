@@ -1,6 +1,6 @@
 use Rattle.std.proofs.Common.{subst}
 use Rattle.fv_eval_scopes.specs.Shows.{ShowsValue}
-use Rattle.fv_eval_patterns.specs.declared.matching.Pair.{Pair}
+use Rattle.fv_eval_patterns.specs.declared.value_patterns.Pair.{Pair}
 use Rattle.fv_eval_patterns.specs.Patterns.{IsValid}
 use Rattle.fv_eval_patterns.proofs.lemmas.LongPatterns.{recalls_still}
 use Rattle.fv_eval_patterns.proofs.Parametric.{answers_value}

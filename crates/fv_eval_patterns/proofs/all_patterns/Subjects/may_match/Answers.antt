@@ -1,7 +1,7 @@
 use Rattle.std.proofs.Common.{Some, length, refl, sym, ap, subst, ◌∙◌}
 use Rattle.std.proofs.lemmas.Option.{slice_get_read}
 use Rattle.fv_diagram.specs.Arena.{Arena}
-use Rattle.fv_eval_patterns.specs.declared.matching.Pair.{Pair}
+use Rattle.fv_eval_patterns.specs.declared.value_patterns.Pair.{Pair}
 use Rattle.fv_eval_patterns.specs.Patterns.{Refuses}
 use Rattle.fv_eval_patterns.specs.Trials.{Says}
 use Rattle.fv_eval_patterns.proofs.lemmas.LongPatterns.{patterns_miss}

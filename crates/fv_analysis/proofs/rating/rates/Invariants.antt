@@ -1,6 +1,0 @@
-use Rattle.std.proofs.Common.{◌≡◌, take}
-use Rattle.fv_signal.specs.headline.Rates.{rates}
-use Rattle.fv_analysis.proofs.rating.rates.Given as goal
-
-abbrev pub invariant-loop-place : goal.invariant-loop-place
-invariant-loop-place l = l.all.items ≡ rates (take l.place l.graph.signals)
