@@ -9,4 +9,4 @@ mod writing;
 pub use coding::Coding;
 pub use laws::{sample_is_read_again, samples_are_read_again, samples_follow};
 pub use reading::{decode, decoded};
-pub use writing::{DATA_LIMIT, data_length, encode};
+pub use writing::{data_length, encode};
