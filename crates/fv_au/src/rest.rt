@@ -13,8 +13,9 @@ ghost use Rattle.fv_au.specs.Stopping.{RestStops};
 
 use crate::head::AuHead;
 use crate::refusal::AuRefusal;
+use fv_base::limits::DATA_LIMIT;
 use fv_outside::{Desk, Role, read_up_to};
-use fv_pcm::{Coding, DATA_LIMIT, decoded};
+use fv_pcm::{Coding, decoded};
 use std::alloc::{AllocError, Global};
 
 /// The place of a head's size.

@@ -3,6 +3,9 @@
 /// How many bytes the text of a program may have, and a script of changes.
 pub const LONGEST_TEXT: usize = 1_048_576;
 
+/// The greatest integer literal of a program.
+pub const GREATEST_LITERAL: u64 = 2_147_483_647;
+
 /// How many brackets may be open at once.
 pub const DEEPEST_NESTING: u32 = 128;
 
@@ -49,6 +52,9 @@ pub const MOST_VOICES: u32 = 64;
 
 /// How many frames may be made.
 pub const MOST_MADE: u32 = 262_144;
+
+/// How many bytes of samples the head of a file can state.
+pub const DATA_LIMIT: u32 = 4_294_967_258;
 
 /// How many chunks a file may have in front of its samples.
 pub const MOST_CHUNKS: u32 = 4096;

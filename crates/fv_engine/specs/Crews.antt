@@ -1,14 +1,16 @@
 -- What several workers need of a plan (this project's profile).
 use Rattle.std.specs.Prelude.{◌≤◌}
+use Rattle.fv_base.specs.declared.limits.TheConstants.{MOST_WORKERS}
 use Rattle.fv_outside.specs.headline.Tasks.{Tasks}
 use Rattle.fv_split_plan.specs.headline.View.{PlanView}
 use Rattle.fv_engine_lanes.specs.Cells.{ArePlaced}
 use Rattle.fv_engine_codes.specs.Codes.{AreLocalCodes, AreLaneCounts}
 use Rattle.fv_engine.specs.declared.crew_codes.CrewCodes.{CrewCodes}
 
--- the codes of the plan's loops over the lanes that they see, how many these are, the cells' places in their loops, and 1 to 16 workers
+-- the codes of the plan's loops over the lanes that they see, how many these are, the cells' places in their loops, and a worker, and no
+-- more than a run may ask for
 pub record IsCrewOf (p : PlanView) (g : Tasks) (c : CrewCodes) : Type 0 where
   pub codes : AreLocalCodes p g c.codes.items
   pub counts : AreLaneCounts p g c.counts.items
   pub cells : ArePlaced p c.places.places.items c.places.counts.items
-  pub workers : (1 ≤ c.workers) × (c.workers ≤ 16)
+  pub workers : (1 ≤ c.workers) × (c.workers ≤ MOST_WORKERS)

@@ -1,6 +1,7 @@
 // What several workers need of a plan.
 
 ghost use Rattle.std.specs.Prelude.{◌≡◌, ◌≤◌, IfOk, IfSome};
+ghost use Rattle.fv_base.specs.declared.limits.TheConstants.{MOST_WORKERS};
 ghost use Rattle.fv_engine_codes.specs.Codes.{AreOfPlan};
 ghost use Rattle.fv_engine.specs.Crews.{IsCrewOf};
 
@@ -29,7 +30,7 @@ pub(crate) fn crew_for(
     workers: u32,
 ) -> Result<Option<CrewCodes>, AllocError>
     requires of_plan { AreOfPlan plan.now tasks.now.tasks }
-    requires workers { (1 ≤ workers) × (workers ≤ 16) }
+    requires workers { (1 ≤ workers) × (workers ≤ MOST_WORKERS) }
     ensures of_plan { IfOk result (λ crew. IfSome crew (λ c. IsCrewOf plan.now tasks.now.tasks c)) }
     ensures as_many { IfOk result (λ crew. IfSome crew (λ c. c.workers ≡ workers)) }
 {

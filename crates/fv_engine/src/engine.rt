@@ -1,7 +1,7 @@
 // The engine.
 
 ghost use Rattle.std.specs.Prelude.{◌≡◌, ℕ, ◌*◌, ◌++◌, ◌∷◌, [], ◌<◌, ◌≤◌, length, slice_index, false, IfOk, IfSome, IsSome, Some};
-ghost use Rattle.fv_base.specs.declared.limits.TheConstants.{DELAY_BUDGET, MOST_BLOCK, MOST_CHANNELS, MOST_VECTORS};
+ghost use Rattle.fv_base.specs.declared.limits.TheConstants.{DELAY_BUDGET, MOST_BLOCK, MOST_CHANNELS, MOST_VECTORS, MOST_WORKERS};
 ghost use Rattle.fv_signal.specs.Frames.{Stream};
 ghost use Rattle.fv_signal.specs.headline.Value.{Graph};
 ghost use Rattle.fv_outside.specs.headline.Journal.{Told, BlockEntry};
@@ -82,7 +82,7 @@ impl Engine {
         requires histories { (l : ℕ) → l < length plan.lanes → (lane_info plan l).history ≤ DELAY_BUDGET }
         requires block { (1 ≤ block) × (block ≤ MOST_BLOCK) }
         requires vector { (1 ≤ vector) × (vectors_of block vector ≤ MOST_VECTORS) }
-        requires workers { (1 ≤ workers) × (workers ≤ 16) }
+        requires workers { (1 ≤ workers) × (workers ≤ MOST_WORKERS) }
         ensures parts { IfOk result (λ e. (e.plan ≡ plan) × (e.channels ≡ channels) × (e.workers ≡ workers) × (e.block ≡ block) × (e.vector ≡ vector)) }
 
         // It stands for no frames yet.

@@ -1,6 +1,7 @@
 -- A block that is spread over workers (this project's profile).
 use Rattle.std.specs.Prelude.{◌≡◌, ℕ, ◌<◌, ◌≤◌, List, length, sum, All, Vec, ℤ}
 use Rattle.std.specs.declared.alloc.Global.{Global}
+use Rattle.fv_base.specs.declared.limits.TheConstants.{MOST_WORKERS}
 use Rattle.fv_outside.specs.headline.Tasks.{Tasks}
 use Rattle.fv_loopcode.specs.headline.State.{State}
 use Rattle.fv_split_plan.specs.Rows.{lists_of}
@@ -31,7 +32,7 @@ block_in b = record {
 }
 
 -- The tasks are the block's, with the code of each loop over the lanes that it sees and how many these are. All cells have places, each
--- lane has a shape, the outputs name lanes, and there are 1 to 16 workers.
+-- lane has a shape, the outputs name lanes, and there is a worker, and no more than a run may ask for.
 pub record IsSpread (b : SpreadBlock) : Type 0 where
   pub job : IsJob (block_in b) (tasks_of b)
   pub codes : AreLocalCodes b.plan.now (tasks_of b) b.codes.now
@@ -40,7 +41,7 @@ pub record IsSpread (b : SpreadBlock) : Type 0 where
   pub lanes : length b.shapes.now ≡ length b.plan.now.lanes
   pub outputs : All (λ l. l < length b.plan.now.lanes) b.plan.now.outputs
   pub some_worker : 1 ≤ b.workers
-  pub most_workers : b.workers ≤ 16
+  pub most_workers : b.workers ≤ MOST_WORKERS
 
 -- what the places hold as the block begins over these cells and lists
 abbrev pub opening_of : SpreadBlock → List LaneState → List ℤ → (lists : List (Vec ℤ Global)) → State

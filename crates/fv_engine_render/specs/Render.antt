@@ -1,6 +1,6 @@
 -- What calls say beside `headline/Render`: a diagram that is played in blocks, by a graph of it (this project's profile).
 use Rattle.std.specs.Prelude.{◌≡◌, ℕ, ◌≤◌, List, length, Option}
-use Rattle.fv_base.specs.declared.limits.TheConstants.{MOST_BLOCK, MOST_CHANNELS, MOST_VECTORS}
+use Rattle.fv_base.specs.declared.limits.TheConstants.{MOST_BLOCK, MOST_CHANNELS, MOST_VECTORS, MOST_WORKERS}
 use Rattle.fv_outside.specs.headline.Journal.{Told}
 use Rattle.fv_diagram.specs.headline.Diagram.{Diagram, inputs, outputs}
 use Rattle.fv_diagram.specs.Diagram.{control_bound}
@@ -37,7 +37,7 @@ pub record CanHave (s : RunSizes) : Type 0 where
   pub vector : 1 ≤ s.vector
   pub vectors : vectors_of s.block s.vector ≤ MOST_VECTORS
   pub one : 1 ≤ s.workers
-  pub workers : s.workers ≤ 16
+  pub workers : s.workers ≤ MOST_WORKERS
 
 -- those of all its frames
 abbrev pub RanWhole : Diagram → List ControlInfo → List Change → RunSizes → Ran → (old new : Option Told) → Type 0

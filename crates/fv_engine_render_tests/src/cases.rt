@@ -6,6 +6,7 @@ ghost use Rattle.fv_control.specs.Laws.{NeverFall, IsOfControls};
 ghost use Rattle.fv_engine_render.specs.Render.{CanHave};
 
 use crate::memory::{Memory, MemoryTape};
+use fv_base::limits::{MOST_BLOCK, MOST_CHANNELS, MOST_VECTORS, MOST_WORKERS};
 use fv_control::{Script, scripts_are_lawful};
 use fv_diagram::ControlInfo;
 use fv_diagram_play::play_script;
@@ -77,10 +78,10 @@ fn sizes_of(frames: u32, block: u32, vector: u32, workers: u32) -> Result<RunSiz
     ensures frames { IfOk result (λ s. s.frames ≡ frames) }
     ensures block { IfOk result (λ s. s.block ≡ block) }
 {
-    if block == 0 || block > 4096 || vector == 0 || block.div_ceil(vector) > 64 {
+    if block == 0 || block > MOST_BLOCK || vector == 0 || block.div_ceil(vector) > MOST_VECTORS {
         return Err("sizes".into());
     }
-    if workers == 0 || workers > 16 {
+    if workers == 0 || workers > MOST_WORKERS {
         return Err("workers".into());
     }
     Ok(RunSizes {
@@ -105,7 +106,7 @@ pub(crate) fn rendered_by<R: Threads + Wait + Sync, G: Gate + Sync>(
     let controls = program.controls.as_slice();
     let script = script_of(alloc, case.script, controls)?;
     let arity = program.diagrams.arity(program.root);
-    if arity.outputs == 0 || arity.inputs > 256 {
+    if arity.outputs == 0 || arity.inputs > MOST_CHANNELS {
         return Err("channels".into());
     }
     if case.input.len() != case.frames as usize * arity.inputs as usize {

@@ -1,6 +1,7 @@
 // Rows of blocks.
 
 ghost use Rattle.std.specs.Prelude.{◌≡◌, ◌<◌, ◌≤◌, length};
+ghost use Rattle.fv_base.specs.declared.limits.TheConstants.{MOST_BLOCK, MOST_VECTORS, MOST_WORKERS};
 ghost use Rattle.fv_engine.specs.Block.{vectors_of};
 ghost use Rattle.fv_engine_tests.specs.Runs.{IsSquare};
 
@@ -196,9 +197,9 @@ fn assert_ring<R: Abort + Threads + Wait + Sync>(
     block: u32,
     workers: u32,
 ) -> Result<(), NoMemory>
-    requires block { (1 ≤ block) × (block ≤ 4096) }
-    requires vector { vectors_of block 1 ≤ 64 }
-    requires workers { (1 ≤ workers) × (workers ≤ 16) }
+    requires block { (1 ≤ block) × (block ≤ MOST_BLOCK) }
+    requires vector { vectors_of block 1 ≤ MOST_VECTORS }
+    requires workers { (1 ≤ workers) × (workers ≤ MOST_WORKERS) }
 {
     let sizes = Sizes {
         width: 1,
@@ -246,7 +247,7 @@ fn assert_differences<R: Abort + Threads + Wait + Sync>(
     graph: &Graph,
     workers: u32,
 ) -> Result<(), Fail>
-    requires workers { (1 ≤ workers) × (workers ≤ 16) }
+    requires workers { (1 ≤ workers) × (workers ≤ MOST_WORKERS) }
 {
     let sizes = Sizes {
         width: 1,
@@ -326,9 +327,9 @@ fn assert_echoes<R: Abort + Threads + Wait + Sync>(
     vector: u32,
     workers: u32,
 ) -> Result<(), NoMemory>
-    requires block { (1 ≤ block) × (block ≤ 4096) }
-    requires vector { (1 ≤ vector) × (vectors_of block vector ≤ 64) }
-    requires workers { (1 ≤ workers) × (workers ≤ 16) }
+    requires block { (1 ≤ block) × (block ≤ MOST_BLOCK) }
+    requires vector { (1 ≤ vector) × (vectors_of block vector ≤ MOST_VECTORS) }
+    requires workers { (1 ≤ workers) × (workers ≤ MOST_WORKERS) }
 {
     let sizes = Sizes {
         width: 2,

@@ -1,6 +1,7 @@
 // Engines of graphs, and their runs.
 
 ghost use Rattle.std.specs.Prelude.{◌≡◌, ◌*◌, ◌^◌, ◌<◌, ◌≤◌, IfOk, IfSome, length};
+ghost use Rattle.fv_base.specs.declared.limits.TheConstants.{MOST_BLOCK, MOST_CHANNELS, MOST_VECTORS, MOST_WORKERS};
 ghost use Rattle.fv_engine.specs.Block.{vectors_of};
 ghost use Rattle.fv_engine_tests.specs.Runs.{IsSquare};
 
@@ -39,10 +40,10 @@ pub(crate) fn engine_of(
     sizes: Sizes,
     controls: usize,
 ) -> Result<Option<Engine>, NoMemory>
-    requires width { sizes.width ≤ 256 }
-    requires block { (1 ≤ sizes.block) × (sizes.block ≤ 4096) }
-    requires vector { (1 ≤ sizes.vector) × (vectors_of sizes.block sizes.vector ≤ 64) }
-    requires workers { (1 ≤ sizes.workers) × (sizes.workers ≤ 16) }
+    requires width { sizes.width ≤ MOST_CHANNELS }
+    requires block { (1 ≤ sizes.block) × (sizes.block ≤ MOST_BLOCK) }
+    requires vector { (1 ≤ sizes.vector) × (vectors_of sizes.block sizes.vector ≤ MOST_VECTORS) }
+    requires workers { (1 ≤ sizes.workers) × (sizes.workers ≤ MOST_WORKERS) }
     ensures { IfOk result (λ e. IfSome e (λ e. IsSquare e sizes.width sizes.block controls)) }
 {
     let rates = rates(alloc, graph)?;
@@ -126,10 +127,10 @@ pub(crate) fn play_graph<R: Abort + Threads + Wait + Sync, G: Gate + Sync>(
     output: &mut [i32],
     gate: &mut G,
 ) -> Result<Reported, NoMemory>
-    requires width { sizes.width ≤ 256 }
-    requires block { (1 ≤ sizes.block) × (sizes.block ≤ 4096) }
-    requires vector { (1 ≤ sizes.vector) × (vectors_of sizes.block sizes.vector ≤ 64) }
-    requires workers { (1 ≤ sizes.workers) × (sizes.workers ≤ 16) }
+    requires width { sizes.width ≤ MOST_CHANNELS }
+    requires block { (1 ≤ sizes.block) × (sizes.block ≤ MOST_BLOCK) }
+    requires vector { (1 ≤ sizes.vector) × (vectors_of sizes.block sizes.vector ≤ MOST_VECTORS) }
+    requires workers { (1 ≤ sizes.workers) × (sizes.workers ≤ MOST_WORKERS) }
     requires input { length input.now ≡ frames * sizes.width }
     requires output { length output.old ≡ frames * sizes.width }
 {

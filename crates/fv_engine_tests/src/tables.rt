@@ -1,6 +1,7 @@
 // Tables that are read, and tables that are written, block by block.
 
 ghost use Rattle.std.specs.Prelude.{◌≤◌};
+ghost use Rattle.fv_base.specs.declared.limits.TheConstants.{MOST_BLOCK, MOST_VECTORS, MOST_WORKERS};
 ghost use Rattle.fv_engine.specs.Block.{vectors_of};
 
 use crate::engines::{Sizes, play_graph};
@@ -31,9 +32,9 @@ fn assert_sounds_by<R: Abort + Threads + Wait + Sync>(
     vector: u32,
     workers: u32,
 ) -> Result<(), NoMemory>
-    requires block { (1 ≤ block) × (block ≤ 4096) }
-    requires vector { (1 ≤ vector) × (vectors_of block vector ≤ 64) }
-    requires workers { (1 ≤ workers) × (workers ≤ 16) }
+    requires block { (1 ≤ block) × (block ≤ MOST_BLOCK) }
+    requires vector { (1 ≤ vector) × (vectors_of block vector ≤ MOST_VECTORS) }
+    requires workers { (1 ≤ workers) × (workers ≤ MOST_WORKERS) }
 {
     let sizes = Sizes {
         width: 1,

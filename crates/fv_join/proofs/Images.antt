@@ -4,7 +4,7 @@ use Rattle.std.proofs.lemmas.Bool.{cases_lt}
 use Rattle.std.proofs.lemmas.List.{get_or_append_left, get_or_push, length_push, length-append}
 use Rattle.std.proofs.lemmas.List.Elements.{All-head, All-tail, All-get_or, All-from_get_or, All-map, All-push}
 use Rattle.fv_base.specs.headline.Lists.{IsPrefixOf}
-use Rattle.fv_base.specs.inner.Lists.{at}
+use Rattle.fv_base.specs.headline.Lists.{at}
 use Rattle.fv_base.proofs.lemmas.Lists.{prefix_refl, prefix_trans}
 use Rattle.fv_analysis.specs.headline.Stands.{node}
 use Rattle.fv_signal.specs.declared.signal.Signal.{Signal}

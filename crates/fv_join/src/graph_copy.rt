@@ -4,7 +4,7 @@ ghost use Rattle.std.specs.Prelude.{◌≡◌, ◌+◌, ◌<◌, ◌^◌, length
 ghost use Rattle.fv_analysis.specs.headline.Stands.{node};
 ghost use Rattle.fv_signal.specs.headline.Value.{members};
 ghost use Rattle.fv_share.specs.Drafts.{IsPending, OperandsThere, lists_in};
-ghost use Rattle.fv_base.specs.inner.Lists.{at};
+ghost use Rattle.fv_base.specs.headline.Lists.{at};
 ghost use Rattle.fv_join.specs.Jobs.{ReadsWithin};
 ghost use Rattle.fv_join.specs.inner.Copied.{renumbered as renumbered_of, copy_of, definitions_of, NumbersFit, HaveRoom};
 ghost use Rattle.fv_join.specs.inner.Copied.{IsValid, IsUnderWay, IsAppended, AreListed};

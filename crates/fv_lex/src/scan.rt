@@ -8,9 +8,7 @@ ghost use Rattle.fv_lex.specs.headline.Pieces.{greatest_literal};
 ghost use Rattle.fv_lex.specs.inner.Steps.{is_in, to_quote, to_close};
 
 use fv_base::is_digit;
-
-/// The greatest integer literal (this project's profile).
-pub(crate) const GREATEST_LITERAL: u64 = 2147483647;
+use fv_base::limits::GREATEST_LITERAL;
 
 pub(crate) fn is_blank(b: u8) -> bool
     ensures { result ≡ is_blank b }

@@ -8,10 +8,8 @@ ghost use Rattle.fv_pcm.specs.Sizes.{data_length_of};
 
 use crate::coding::Coding;
 use byteorder::{BigEndian, ByteOrder, LittleEndian};
+use fv_base::limits::DATA_LIMIT;
 use fv_num::clamp;
-
-/// The most bytes of samples that a head can state.
-pub const DATA_LIMIT: u32 = 4294967258;
 
 /// The bytes of so many frames, unless they are more than a head can state.
 pub fn data_length(channels: u32, bits: u32, frames: u32) -> Option<u32>

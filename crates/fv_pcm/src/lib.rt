@@ -8,5 +8,5 @@ mod laws;
 
 pub use coding::Coding;
 pub use decoder::{decode, decoded};
-pub use encoder::{DATA_LIMIT, data_length, encode};
+pub use encoder::{data_length, encode};
 pub use laws::{sample_is_read_again, samples_are_read_again, samples_follow};

@@ -2,6 +2,7 @@
 
 ghost use Rattle.std.specs.Prelude.{◌≡◌, ℕ, ◌+◌, ◌*◌, ◌-◌, ◌^◌, ◌<◌, ◌≤◌, length, List, []};
 ghost use Rattle.std.specs.Prelude.{◌∷◌, ◌++◌, map, replicate, slice_index_or, Some, None, IfOk, IfErr, vec_len, vec_capacity};
+ghost use Rattle.fv_base.specs.declared.limits.TheConstants.{MOST_WORKERS};
 ghost use Rattle.fv_graph.specs.Graph.{net_of};
 ghost use Rattle.fv_ready_rule.specs.Whole.{first_words, first_view};
 ghost use Rattle.fv_ready.specs.Begun.{first_slots, parcels_of, AreRoomy, AreNewSeats, AreEntries};
@@ -129,7 +130,7 @@ impl<'t, C: Parcel + Drop> Board<'t, C> {
         workers: u32,
         mut entries: Vec<C>,
     ) -> Result<(Board<'t, C>, Vec<WorkerSeat<C>>), (Vec<C>, AllocError)>
-        requires workers { (0 < workers) × (workers ≤ 16) }
+        requires workers { (0 < workers) × (workers ≤ MOST_WORKERS) }
         requires count { vec_len entries ≡ tasks.now.tasks.loops }
         requires entries { AreEntries C.edge_of C.key_of entries.items }
         ensures workers { IfOk result (λ r. (about_of r.0).workers ≡ workers) }

@@ -1,6 +1,7 @@
 // A block by a crew.
 
 ghost use Rattle.std.specs.Prelude.{◌≡◌, ◌-◌, ◌<◌, ◌≤◌, [], length, All, IfOk, IfErr, OnOk, OnErr, vec_capacity};
+ghost use Rattle.fv_base.specs.declared.limits.TheConstants.{MOST_WORKERS};
 ghost use Rattle.fv_outside.specs.Tasks.{task_count};
 ghost use Rattle.fv_outside.specs.headline.Journal.{IsOrdered};
 ghost use Rattle.fv_outside.specs.declared.gate.Line.{Line};
@@ -36,7 +37,7 @@ pub fn run_crew<
     lines: &mut Vec<Line>,
     gate: &G,
 ) -> Result<Vec<C>, Vec<C>>
-    requires workers { (0 < workers) × (workers ≤ 16) }
+    requires workers { (0 < workers) × (workers ≤ MOST_WORKERS) }
     requires body { B.tasks body.now ≡ tasks.now.tasks }
     requires entries { AreParcelsFrom C.edge_of C.key_of (B.key body.now) 0 tasks.now.tasks.loops entries.items }
     requires none { lines.old.items ≡ [] }

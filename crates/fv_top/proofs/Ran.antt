@@ -1,6 +1,7 @@
 -- The blocks of a run and of a make, from those that were rendered.
 use Rattle.std.proofs.Common.{◌≡◌, ℕ, ◌+◌, ◌-◌, ◌/◌, ◌≤◌, List, [], length, subst, refl, inl, inr, sym, ◌∙◌, arith}
 use Rattle.std.specs.Prelude.{Option, Err}
+use Rattle.fv_base.specs.declared.limits.TheConstants.{MOST_VECTORS, MOST_WORKERS}
 use Rattle.fv_base.specs.declared.role.Role.TheVariants.{Output, Report}
 use Rattle.fv_outside.specs.headline.Journal.{Told}
 use Rattle.fv_outside.specs.headline.Desk.{DeskState}
@@ -58,12 +59,12 @@ can_have s frames h =
       some = h.block_least;
       block = h.block_most;
       vector = h.vector_least;
-      vectors = subst (λ (n : ℕ). n / s.vector ≤ 64) same h.vectors;
+      vectors = subst (λ (n : ℕ). n / s.vector ≤ MOST_VECTORS) same h.vectors;
       one = h.workers_least;
-      workers = let most = h.workers_most in omega arith;
+      workers = h.workers_most;
     }
 
-pub makes_fit : (workers frames : ℕ) → 1 ≤ workers → workers ≤ 16 → CanHave (make_sizes workers frames)
+pub makes_fit : (workers frames : ℕ) → 1 ≤ workers → workers ≤ MOST_WORKERS → CanHave (make_sizes workers frames)
 makes_fit workers frames one few =
     record { some = omega arith; block = omega arith; vector = omega arith; vectors = omega arith; one = one; workers = few }
 

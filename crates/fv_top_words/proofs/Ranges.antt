@@ -38,7 +38,7 @@ width_is : (n x : Option ℕ) → width n ≡ Ok x → IfSome x (λ k. is_width 
 width_is None x e = let same : None ≡ x = cc in subst (λ (o : Option ℕ). IfSome o (λ k. is_width k ≡ true)) same tt
 width_is (Some n) x e = let p = chosen (is_width n) (Some n) x Range e in subst (λ (o : Option ℕ). IfSome o (λ k. is_width k ≡ true)) p.1 p.0
 
-default_is : (block : ℕ) → 1 ≤ block → block ≤ 4096 → (1 ≤ default_vector block) × (default_vector block ≤ block)
+default_is : (block : ℕ) → 1 ≤ block → block ≤ MOST_BLOCK → (1 ≤ default_vector block) × (default_vector block ≤ block)
 default_is block low high = (grind (arith, nat_tests), grind (arith, nat_tests))
 
 passed_by : {A : Type 0} (b : Bool) (x y : A) → (if b then Err Vectors else Ok x) ≡ Ok y → (b ≡ false) × (x ≡ y)

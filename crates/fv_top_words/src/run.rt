@@ -188,7 +188,7 @@ fn default_vector(block: u32) -> u32
     if block < 32 {
         return block;
     }
-    let size = (block + 63) / 64;
+    let size = (block + (MOST_VECTORS - 1)) / MOST_VECTORS;
     size.max(32)
 }
 

@@ -6,8 +6,10 @@
 #![tactic(auto)]
 
 ghost use Rattle.std.specs.Prelude.{◌<◌, ◌≤◌};
+ghost use Rattle.fv_base.specs.declared.limits.TheConstants.{MOST_WORKERS};
 
 use anyhow::{Context, Result, bail, ensure};
+use fv_base::limits::MOST_WORKERS;
 use fv_graph::Tasks;
 use fv_outside::FreeGate;
 use rand_pcg::Pcg32;
@@ -44,7 +46,7 @@ fn look_at_block<R: Threads + Wait + Sync>(
     tasks: &Tasks,
     workers: u32,
 ) -> Result<()>
-    requires { (0 < workers) × (workers ≤ 16) }
+    requires { (0 < workers) × (workers ≤ MOST_WORKERS) }
 {
     let gate = Counter::new();
     let mut block = ran(rt, alloc, tasks, workers, &gate)?;
@@ -68,7 +70,7 @@ fn round<R: Threads + Wait + Sync>(rt: &R, alloc: Global, seed: u64) -> Result<u
     look_at_block(rt, alloc, &tasks, 1)?;
     look_at_block(rt, alloc, &tasks, 2)?;
     look_at_block(rt, alloc, &tasks, 4)?;
-    look_at_block(rt, alloc, &tasks, 16)?;
+    look_at_block(rt, alloc, &tasks, MOST_WORKERS)?;
     Ok(tasks.len())
 }
 
@@ -98,7 +100,7 @@ fn plan<R: Threads + Wait + Sync>(rt: &R, alloc: Global, words: &[String]) -> Re
     let workers = number(words, 5)?;
     let count = number(words, 6)?;
     ensure!(loops > 0 && vectors > 0, "a plan has a loop and a vector");
-    ensure!(workers > 0 && workers <= 16, "1 to 16 workers");
+    ensure!(workers > 0 && workers <= MOST_WORKERS, "1 to 16 workers");
     let tasks = tasks_with(alloc, &mut Pcg32::new(1, STREAM), loops, vectors, percent)?;
     for _i in 0..count {
         let block = ran(rt, alloc, &tasks, workers, &FreeGate)?;

@@ -1,6 +1,7 @@
 // A block by a crew, from its beginning to its end.
 
 ghost use Rattle.std.specs.Prelude.{◌≡◌, ◌<◌, ◌≤◌, map, vec_len, vec_capacity};
+ghost use Rattle.fv_base.specs.declared.limits.TheConstants.{MOST_WORKERS};
 ghost use Rattle.fv_steal.specs.Crews.{seat_of};
 
 use crate::notes::{Note, Notes, entries};
@@ -50,7 +51,7 @@ pub fn ran<R: Threads + Wait + Sync, G: Gate + Sync>(
     count: u32,
     gate: &G,
 ) -> Result<Finished, AllocError>
-    requires { (0 < count) × (count ≤ 16) }
+    requires { (0 < count) × (count ≤ MOST_WORKERS) }
 {
     let list = entries(alloc, tasks.loops())?;
     let mut exits = Vec::with_capacity(alloc, tasks.loops() as usize)?;

@@ -1,5 +1,5 @@
 -- Words on lists (this project's profile).
-use Rattle.std.specs.Prelude.{◌≡◌, ℕ, zero, suc, List, [], ◌∷◌, ◌++◌}
+use Rattle.std.specs.Prelude.{◌≡◌, ℕ, zero, suc, List, [], ◌∷◌, ◌++◌, slice_index_or}
 
 -- ys begins with xs
 pub record IsPrefixOf {A : Type 0} (xs ys : List A) : Type 0 where
@@ -10,3 +10,7 @@ pub record IsPrefixOf {A : Type 0} (xs ys : List A) : Type 0 where
 abbrev pub table : {A : Type 0} → ℕ → (ℕ → A) → List A
 table zero f = []
 table (suc n) f = table n f ++ f n ∷ []
+
+-- number i of a list of numbers, 0 behind its end
+abbrev pub at : List ℕ → ℕ → ℕ
+at xs i = slice_index_or xs i 0

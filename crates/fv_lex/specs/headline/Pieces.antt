@@ -1,7 +1,7 @@
 -- What a text may be cut into, apart from any way to find it. Source: Faust manual, cut down by this project's profile.
 use Rattle.std.specs.Prelude.{◌≡◌, ℕ, ◌<◌, ◌≤◌, Bool, true, false, not, ◌&&◌, ◌||◌, nat_eq, List, [], ◌∷◌, ◌++◌, Option, Some, None, if◌then◌else◌, is_some}
 use Rattle.std.specs.List.{list_all}
-use Rattle.fv_lex.specs.declared.scan.TheConstants.{GREATEST_LITERAL}
+use Rattle.fv_base.specs.declared.limits.TheConstants.{GREATEST_LITERAL}
 use Rattle.fv_lex.specs.declared.token.Kind.{Kind}
 use Rattle.fv_lex.specs.declared.token.Kind.TheVariants.{Name, Integer, Text, Sign}
 use Rattle.fv_lex.specs.declared.refusal.Fault.{Fault}

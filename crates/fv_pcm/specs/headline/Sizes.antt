@@ -1,6 +1,6 @@
 -- Frames in a file: how long they are, how many there are, and which.
 use Rattle.std.specs.Prelude.{ℕ, ◌*◌, ◌/◌, List, take, drop}
-use Rattle.fv_pcm.specs.declared.encoder.TheConstants.{DATA_LIMIT}
+use Rattle.fv_base.specs.declared.limits.TheConstants.{DATA_LIMIT}
 
 -- the bytes of a frame
 abbrev pub frame_size : (channels bits : ℕ) → ℕ

@@ -1,13 +1,10 @@
 -- Nodes that lead to nodes, and what is reached from a node (words of graph theory).
-use Rattle.std.specs.Prelude.{◌≡◌, ℕ, zero, suc, ◌<◌, List, length, slice_index_or}
+use Rattle.std.specs.Prelude.{◌≡◌, ℕ, zero, suc, ◌<◌, List, length}
+pub use Rattle.fv_base.specs.headline.Lists.{at}
 
 -- the nodes that each node leads to
 abbrev pub Links : Type 0
 Links = ℕ → List ℕ
-
--- the number at a place
-abbrev pub at : List ℕ → ℕ → ℕ
-at xs i = slice_index_or xs i 0
 
 -- one step
 pub record Leads (next : Links) (a b : ℕ) : Type 0 where

@@ -34,7 +34,7 @@ width (Some n) = if is_width n then Ok (Some n) else Err Range
 
 -- the vector of a block: the whole of a short one, else at least 32 frames and no more vectors than a block may have
 abbrev pub default_vector : ℕ → ℕ
-default_vector block = if nat_lt block 32 then block else max 32 ((block + 63) / 64)
+default_vector block = if nat_lt block 32 then block else max 32 ((block + (MOST_VECTORS - 1)) / MOST_VECTORS)
 
 -- the vectors of a block, of which the last may be shorter
 abbrev pub vectors_in : (block vector : ℕ) → ℕ

@@ -2,7 +2,7 @@ use Rattle.std.proofs.Common.{rules, ◌≡◌, ◌<◌, ◌+◌, ◌^◌, ℕ, 
 use Rattle.std.proofs.lemmas.List.{length-append}
 use Rattle.std.proofs.lemmas.Result.{IfOk-weaker}
 use Rattle.std.proofs.lemmas.List.Elements.{All-from_get_or}
-use Rattle.fv_base.specs.inner.Lists.{at}
+use Rattle.fv_base.specs.headline.Lists.{at}
 use Rattle.fv_signal.specs.headline.Value.{members}
 use Rattle.fv_share.specs.Drafts.{Draft, CanClose, lists_in, with_groups, with_tables, with_all_members}
 use Rattle.fv_join.specs.declared.graph_copy.Offsets.{Offsets}

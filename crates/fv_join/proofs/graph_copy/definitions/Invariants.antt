@@ -1,5 +1,5 @@
 use Rattle.std.proofs.Common.{◌≡◌, take, map}
-use Rattle.fv_base.specs.inner.Lists.{at}
+use Rattle.fv_base.specs.headline.Lists.{at}
 use Rattle.fv_share.specs.Drafts.{lists_in}
 use Rattle.fv_join.proofs.graph_copy.definitions.Given as goal
 

@@ -1,5 +1,5 @@
 use Rattle.std.proofs.Common.{◌≡◌, ◌<◌, ◌+◌, ℕ, ℤ, List, [], length, get_or, sym, ap, ◌∙◌, subst, arith, false}
-use Rattle.fv_base.specs.inner.Lists.{at}
+use Rattle.fv_base.specs.headline.Lists.{at}
 use Rattle.fv_analysis.specs.headline.Stands.{node}
 use Rattle.fv_join.specs.inner.Copied.{IsUnderWay, copy_of}
 use Rattle.fv_join.proofs.Images.{one_more}

@@ -1,5 +1,5 @@
 use Rattle.std.proofs.Common.{◌≡◌, take, map}
-use Rattle.fv_base.specs.inner.Lists.{at}
+use Rattle.fv_base.specs.headline.Lists.{at}
 use Rattle.fv_join.proofs.graph_copy.images_of.Given as goal
 
 abbrev pub invariant-loop-s : goal.invariant-loop-s
