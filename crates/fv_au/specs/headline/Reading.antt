@@ -15,12 +15,15 @@ field place bytes = big_number 4 (drop place bytes)
 abbrev pub is_encoding : ℕ → Bool
 is_encoding e = nat_le 2 e && nat_le e 5
 
+-- the bits of a sample in this encoding
 abbrev pub bits_of : (encoding : ℕ) → ℕ
 bits_of e = (e - 1) * 8
 
+-- the encoding of samples of so many bits
 abbrev pub encoding_of : (bits : ℕ) → ℕ
 encoding_of bits = bits / 8 + 1
 
+-- a number of channels that a file may have
 abbrev pub is_channels : ℕ → Bool
 is_channels n = nat_le 1 n && nat_le n MOST_CHANNELS
 
@@ -28,6 +31,7 @@ is_channels n = nat_le 1 n && nat_le n MOST_CHANNELS
 abbrev pub unknown : ℕ
 unknown = 2 ^ 32 - 1
 
+-- the bytes of samples that a head states, if their length was known
 abbrev pub stated : ℕ → Option ℕ
 stated size = if size == unknown then None else Some size
 
@@ -54,10 +58,12 @@ head_of bytes =
 abbrev pub behind : List ℕ → AuHead → Result AuHead AuRefusal
 behind bytes head = if nat_lt (length bytes) head.offset then Err (AuTruncated (length bytes)) else Ok head
 
+-- a head that was read of these bytes, if the whole head is there; or why none was
 abbrev pub au_in : List ℕ → Result AuHead AuRefusal → Result AuHead AuRefusal
 au_in bytes (Ok head) = behind bytes head
 au_in bytes (Err e) = Err e
 
+-- The head of a file, or why it has none.
 abbrev pub au : List ℕ → Result AuHead AuRefusal
 au bytes = au_in bytes (head_of bytes)
 

@@ -14,6 +14,7 @@ use Rattle.fv_control.specs.declared.refusal.ScriptRefusal.TheVariants.{TextTooL
 
 -- ---- one line
 
+-- a space
 abbrev pub is_space : ℕ → Bool
 is_space b = b == 32
 
@@ -22,6 +23,7 @@ abbrev pub one_more : Option ℕ → Option ℕ → Option ℕ
 one_more (Some i) here = Some (i + 1)
 one_more None here = here
 
+-- the place of the last space of these bytes, if there is one
 abbrev pub last_space : List ℕ → Option ℕ
 last_space [] = None
 last_space (b ∷ bs) = one_more (last_space bs) (if is_space b then Some 0 else None)
@@ -30,6 +32,7 @@ last_space (b ∷ bs) = one_more (last_space bs) (if is_space b then Some 0 else
 abbrev pub natural_to : ℕ → List ℕ → Option ℕ
 natural_to most ds = if is_decimal ds && nat_le (decimal_after 0 ds) most then Some (decimal_after 0 ds) else None
 
+-- the number of a frame, of 32 bits
 abbrev pub frame_of : List ℕ → Option ℕ
 frame_of ds = natural_to (2 ^ 32 - 1) ds
 
@@ -49,6 +52,7 @@ pub record Request : Type 0 where
   pub label : List ℕ
   pub value : ℤ
 
+-- what a line asks for, if its frame and its value are numbers in their ranges
 abbrev pub requested : Option ℕ → List ℕ → Option ℤ → Option Request
 requested (Some frame) label (Some value) = Some (record { frame = frame; label = label; value = value })
 requested _ label _ = None
@@ -70,6 +74,7 @@ is_silent line = (length line == 0) || (slice_index line 0 == 35)
 abbrev pub no_control : ControlInfo
 no_control = record { kind = Button; label = []; init = pos 0; min = pos 0; max = pos 0 }
 
+-- a value within a control's range
 abbrev pub is_within : ControlInfo → ℤ → Bool
 is_within c value = int_le c.min value && int_le value c.max
 
@@ -79,10 +84,12 @@ change_of c least number k r =
     if not (is_within c r.value) then Err (ControlRange number)
     else if nat_le least r.frame then Ok (Some (record { frame = r.frame; control = k; value = r.value })) else Err (ControlOrder number)
 
+-- what is asked of the control that a label names, if it names one
 abbrev pub asked : List ControlInfo → (least number : ℕ) → Request → Option ℕ → Result (Option Change) ScriptRefusal
 asked controls least number r None = Err (ControlUnknown number)
 asked controls least number r (Some k) = change_of (slice_index_or controls k no_control) least number k r
 
+-- what a line asks for, or that it is no line of a script
 abbrev pub heard : List ControlInfo → (least number : ℕ) → Option Request → Result (Option Change) ScriptRefusal
 heard controls least number None = Err (ControlLine number)
 heard controls least number (Some r) = asked controls least number r (position (λ c. bytes_eq c.label r.label) controls)
@@ -95,11 +102,13 @@ line_says controls least number line =
 
 -- ---- all lines
 
+-- what follows an answer, or its refusal
 infixl 10 ◌>>=◌
 abbrev pub ◌>>=◌ : {A B : Type 0} → Result A ScriptRefusal → (A → Result B ScriptRefusal) → Result B ScriptRefusal
 ◌>>=◌ (Ok x) f = f x
 ◌>>=◌ (Err e) f = Err e
 
+-- a change that there may be, as a list
 abbrev pub listed : Option Change → List Change
 listed None = []
 listed (Some c) = c ∷ []

@@ -10,6 +10,7 @@ label_of k label = decimal k ++ 47 ∷ label
 abbrev pub renamed : (k : ℕ) → ControlInfo → ControlInfo
 renamed k c = record c { label = label_of k c.label }
 
+-- the controls of job k under their labels among all jobs
 abbrev pub labelled : (k : ℕ) → List ControlInfo → List ControlInfo
 labelled k cs = map (renamed k) cs
 

@@ -46,5 +46,6 @@ low_bytes coding.Au n x = drop (4 - n) (big_bytes 4 x)
 abbrev pub sample_bytes : Coding → (bits : ℕ) → ℤ → List ℕ
 sample_bytes c bits x = low_bytes c (bits / 8) (cast_unsigned w32 (stored_of c bits x))
 
+-- the bytes of a frame, sample after sample
 abbrev pub frame_bytes : Coding → (bits : ℕ) → Frame → List ℕ
 frame_bytes c bits x = flat_map (sample_bytes c bits) x

@@ -17,6 +17,7 @@ pub record Layout : Type 0 where
 abbrev pub stated_frames : Layout → ℕ
 stated_frames l = l.size / frame_size l.channels l.bits
 
+-- the bytes of the whole frames that are stated
 abbrev pub whole_bytes : Layout → ℕ
 whole_bytes l = stated_frames l * frame_size l.channels l.bits
 

@@ -58,6 +58,7 @@ abbrev pub BlocksOf : Job → Tally → DeskState → (before after : Option Tol
 BlocksOf (Checking name) t old before after = (t.blocks ≡ 0) × (t.loops ≡ 0) × (t.loop_runs ≡ 0) × (after ≡ before)
 BlocksOf job t old before after = (x : HaveRan job old t.frames (ran_in t) before after) × (x.played.sizes.frames ≡ t.frames)
 
+-- the words ask for a job, and the tally and what was told are those of its blocks
 pub record HasBlocks (words : List (List ℕ)) (t : Tally) (old : DeskState) (before after : Option Told) : Type 0 where
   pub job : Job
   pub asks : Asks words job

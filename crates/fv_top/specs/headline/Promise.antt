@@ -97,6 +97,7 @@ meant_of (Making voices frames workers) files can = make_meant can.0 voices fram
 
 -- ---- its stages, in order
 
+-- a stage of a run
 pub data Stage : Type 0 where
   -- the program's file is read and judged
   ReadProgram : Stage
@@ -164,6 +165,7 @@ abbrev pub kind_of : Job → ProgramKind
 kind_of (Playing run) = run.manner.program
 kind_of job = Alone
 
+-- a refusal is one of those of what a stage judges, where the program's file is of this kind
 abbrev pub HasRefusal : ProgramKind → Stage → Refusal → Type 0
 HasRefusal kind s refusal = IsTrue (is_of_stage kind s (row_of refusal).number)
 

@@ -27,6 +27,7 @@ layout_of h = record { channels = h.channels; bits = h.bits; size = h.data_bytes
 abbrev pub stated_frames : Incoming → ℕ
 stated_frames h = frames_stated (layout_of h)
 
+-- the bytes of its whole frames
 abbrev pub whole_bytes : Incoming → ℕ
 whole_bytes h = bytes_stated (layout_of h)
 

@@ -36,10 +36,12 @@ abbrev pub frames_in : Settings → Option Incoming → Option ℕ
 frames_in s None = s.frames
 frames_in s (Some h) = Some (stated_frames h)
 
+-- frames a second: the input's, or without one what is asked for, 44,100 where nothing is
 abbrev pub rate_in : Settings → Option Incoming → ℕ
 rate_in s None = unwrap_or s.rate 44100
 rate_in s (Some h) = h.rate
 
+-- bits of a sample: what is asked for, or else the input's, 16 where there is none
 abbrev pub bits_in : Settings → Option Incoming → ℕ
 bits_in s None = unwrap_or s.bits 16
 bits_in s (Some h) = unwrap_or s.bits h.bits

@@ -32,6 +32,7 @@ found files (Some name) = option_map Some (file_named name files)
 
 -- ---- scripts
 
+-- what a script says, as a run answers it
 abbrev pub scripted : Result (List Change) ScriptRefusal → Result (List Change) Refusal
 scripted (Ok changes) = Ok changes
 scripted (Err e) = Err (of_script e)
@@ -48,6 +49,7 @@ pub record Source : Type 0 where
   pub head : Option Incoming
   pub bytes : List ℕ
 
+-- an input with this head, in a file of these bytes
 abbrev pub headed : Incoming → List ℕ → Source
 headed h bytes = record { head = Some h; bytes = bytes }
 

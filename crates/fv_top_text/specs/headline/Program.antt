@@ -54,6 +54,7 @@ with_channels inputs outputs p =
     else (if nat_lt MOST_CHANNELS inputs then Err (no.Channels inputs MOST_CHANNELS)
     else Ok p))
 
+-- a program whose inputs and outputs are no more than a file may have channels, and which has an output
 abbrev pub narrow : Compiled → Result Compiled Refusal
 narrow p = with_channels (inputs p.diagram) (outputs p.diagram) p
 

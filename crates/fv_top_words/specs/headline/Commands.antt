@@ -7,6 +7,7 @@ use Rattle.fv_top_words.specs.headline.Texts.{Texts, texts_of}
 use Rattle.fv_top_words.specs.headline.Numbers.{◌>>=◌, number_in}
 use Rattle.fv_top_words.specs.headline.Runs.{Run, run_of, by_kinds, of_jobs, within_or}
 
+-- what the words ask for: to play a program, to check one, or to make one of so many voices and play it
 pub data Job : Type 0 where
   Playing : (run : Run) → Job
   Checking : (program : List ℕ) → Job

@@ -40,6 +40,7 @@ default_vector block = if nat_lt block 32 then block else max 32 ((block + (MOST
 abbrev pub vectors_in : (block vector : ℕ) → ℕ
 vectors_in block vector = (block + vector - 1) / vector
 
+-- how a run is done: frames of a block and of a vector, workers, and, where they are given, the output's bits, frames and rate
 pub record Settings : Type 0 where
   pub block : ℕ
   pub vector : ℕ
@@ -63,6 +64,7 @@ settings_of n = do
   rate ← within 1 (2 ^ 32 - 1) n.rate
   checked (record { block = block; vector = vector; workers = workers; bits = bits; frames = frames; rate = rate })
 
+-- a run: its files by their names, an input and a script only where they are given, how it is done, and of which kinds the files are
 pub record Run : Type 0 where
   pub program : List ℕ
   pub input : Option (List ℕ)

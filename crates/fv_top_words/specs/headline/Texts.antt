@@ -3,6 +3,7 @@ use Rattle.std.specs.Prelude.{ℕ, Bool, true, false, nat_lt, List, [], ◌∷�
 use Rattle.std.specs.Prelude.{length, Option, Some, None, option_map, option_and_then, bytes_eq, codes, if◌then◌else◌}
 use Rattle.fv_top_words.specs.headline.Pieces.{Piece, Plain, Given, cut}
 
+-- the plain words, whether an option is given, and the values of the options that are
 pub record Texts : Type 0 where
   pub plain : List (List ℕ)
   pub has_options : Bool

@@ -18,6 +18,7 @@ pub record Rest : Type 0 where
   pub place : ℕ
   pub bytes : List ℕ
 
+-- a reading that stands at this place, before these bytes
 abbrev pub rest_of : ℕ → List ℕ → Rest
 rest_of place bytes = record { place = place; bytes = bytes }
 
@@ -37,6 +38,7 @@ abbrev pub behind : Bool → ℕ → Rest → Result Rest WaveRefusal
 behind true n r = Ok (rest_of (r.place + n) (drop n r.bytes))
 behind false n r = Err (WaveTruncated (r.place + length r.bytes))
 
+-- the reading behind the next n bytes, or the file ends before
 unfoldable pub past : ℕ → Rest → Result Rest WaveRefusal
 past n r = behind (nat_le n (length r.bytes)) n r
 
@@ -52,6 +54,7 @@ number n r = past n r >>= λ x. Ok (little_number n r.bytes, x)
 abbrev pub plain_tag : ℕ
 plain_tag = 1
 
+-- the tag of samples whose format is named by a sub-format
 abbrev pub extensible_tag : ℕ
 extensible_tag = 65534
 
@@ -59,6 +62,7 @@ extensible_tag = 65534
 abbrev pub plain_samples : List ℕ
 plain_samples = 1 ∷ 0 ∷ 0 ∷ 0 ∷ 0 ∷ 0 ∷ 16 ∷ 0 ∷ 128 ∷ 0 ∷ 0 ∷ 170 ∷ 0 ∷ 56 ∷ 155 ∷ 113 ∷ []
 
+-- one of these two tags
 abbrev pub is_tag : ℕ → Bool
 is_tag tag = (tag == plain_tag) || (tag == extensible_tag)
 
@@ -70,6 +74,7 @@ least_size tag = if tag == extensible_tag then 40 else 16
 abbrev pub padded : ℕ → ℕ
 padded size = size + size % 2
 
+-- a number of channels that a file may have
 abbrev pub is_channels : ℕ → Bool
 is_channels n = nat_le 1 n && nat_le n MOST_CHANNELS
 
@@ -123,6 +128,7 @@ data_chunk (Some format) place r =
     number 4 r >>= λ size. rule (not (size.0 == unknown_size)) r.place
     >>= λ _. Ok (record { channels = format.channels; rate = format.rate; bits = format.bits; data_bytes = size.0; place = size.1.place })
 
+-- the kind of a chunk of this name
 abbrev pub kind_of : List ℕ → Kind
 kind_of name = if bytes_eq name (codes "data") then kind.Data else if bytes_eq name (codes "fmt ") then kind.Format else kind.Other
 
@@ -149,6 +155,7 @@ walk (suc room) seen r = next 4 r >>= λ name. any_chunk (kind_of name.0) seen r
 abbrev pub is_form : List ℕ → Bool
 is_form bytes = bytes_eq (take 4 bytes) (codes "RIFF") && bytes_eq (drop 8 bytes) (codes "WAVE")
 
+-- the rule of the first twelve bytes
 abbrev pub form : Bool → Result (Unit {0}) WaveRefusal
 form true = Ok tt
 form false = Err (NotWave 0)
