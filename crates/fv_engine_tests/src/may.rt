@@ -1,16 +1,15 @@
 // Whether an engine may be prepared of a graph's plan.
 
 ghost use Rattle.std.specs.Prelude.{◌≡◌, ℕ, ◌<◌, ◌≤◌, false, length};
+ghost use Rattle.fv_base.specs.declared.limits.TheConstants.{DELAY_BUDGET};
 ghost use Rattle.fv_signal.specs.headline.Rates.{NamesControl};
 ghost use Rattle.fv_split_plan.specs.headline.Plans.{NamesChannel};
 ghost use Rattle.fv_split_plan.specs.headline.View.{lane_info};
 ghost use Rattle.fv_engine_tests.specs.Runs.{IsNamedWithin};
 
+use fv_base::limits::DELAY_BUDGET;
 use fv_signal::{Graph, Signal, SignalId};
 use fv_split_plan::Plan;
-
-// The longest history of a lane that an engine allows.
-const LONGEST: u64 = 16_777_216;
 
 // A signal is an input or a control beyond so many.
 fn is_beyond(signal: Signal, channels: u32, controls: usize) -> bool
@@ -46,11 +45,11 @@ pub(crate) fn names_beyond(graph: &Graph, channels: u32, controls: usize) -> boo
 
 /// A lane keeps more history than an engine allows.
 pub(crate) fn histories_beyond(plan: &Plan) -> bool
-    ensures { result ≡ false → (l : ℕ) → l < length plan.now.lanes → (lane_info plan.now l).history ≤ 16777216 }
+    ensures { result ≡ false → (l : ℕ) → l < length plan.now.lanes → (lane_info plan.now l).history ≤ DELAY_BUDGET }
 {
     let lanes = plan.lanes();
     for i in 0..lanes.len() {
-        if lanes[i].history > LONGEST {
+        if lanes[i].history > DELAY_BUDGET {
             return true;
         }
     }
