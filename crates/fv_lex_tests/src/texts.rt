@@ -9,19 +9,14 @@ use std::test::Fail;
 /// A token: its symbol, its column and its bytes.
 type Row = (Symbol, u32, &'static [u8]);
 
-/// The token with this number is this one. Answers the next number.
-fn expect_token(rt: &impl Abort, found: &Tokens, i: u32, kind: Kind, line: u32, row: &Row) -> u32 {
+/// The token with this number is this one.
+fn is_token(found: &Tokens, i: u32, kind: Kind, line: u32, row: &Row) -> bool {
     let (symbol, column, bytes) = *row;
-    assert!(rt; i < found.len(), "token {i}");
-    assert_eq!(rt;
-        found.symbols().get(i as usize).copied(),
-        Some(symbol),
-        "token {i}"
-    );
-    assert_eq!(rt; found.kind(i), kind, "token {i}");
-    assert!(rt; found.text(i) == bytes, "token {i}");
-    assert_eq!(rt; found.place(i), Place { line, column }, "token {i}");
-    i + 1
+    i < found.len()
+        && found.symbols().get(i as usize).copied() == Some(symbol)
+        && found.kind(i) == kind
+        && found.text(i) == bytes
+        && found.place(i) == Place { line, column }
 }
 
 /// The tokens of a text of one line are these, all of one kind.
@@ -33,95 +28,101 @@ fn expect_line(
     rows: &[Row],
 ) -> Result<(), LexRefusal> {
     let found = tokens(alloc, text)?;
-    let mut i = 0;
-    for row in rows {
-        i = expect_token(rt, &found, i, kind, 1, row);
+    assert_eq!(rt; found.len() as usize, rows.len());
+    for i in 0..found.len() {
+        assert!(rt;
+            is_token(&found, i, kind, 1, &rows[i as usize]),
+            "token {i}"
+        );
     }
-    assert_eq!(rt; found.len(), i);
     Ok(())
 }
+
+// The tokens of `signs`.
+static SIGNS: [Row; 34] = [
+    (Symbol::Underscore, 1, b"_"),
+    (Symbol::Exclamation, 3, b"!"),
+    (Symbol::Comma, 5, b","),
+    (Symbol::Colon, 7, b":"),
+    (Symbol::Split, 9, b"<:"),
+    (Symbol::Merge, 12, b":>"),
+    (Symbol::Tilde, 15, b"~"),
+    (Symbol::Plus, 17, b"+"),
+    (Symbol::Minus, 19, b"-"),
+    (Symbol::Times, 21, b"*"),
+    (Symbol::Divide, 23, b"/"),
+    (Symbol::Percent, 25, b"%"),
+    (Symbol::Ampersand, 27, b"&"),
+    (Symbol::Bar, 29, b"|"),
+    (Symbol::ShiftLeft, 31, b"<<"),
+    (Symbol::ShiftRight, 34, b">>"),
+    (Symbol::Less, 37, b"<"),
+    (Symbol::LessEqual, 39, b"<="),
+    (Symbol::Greater, 42, b">"),
+    (Symbol::GreaterEqual, 44, b">="),
+    (Symbol::EqualEqual, 47, b"=="),
+    (Symbol::NotEqual, 50, b"!="),
+    (Symbol::At, 53, b"@"),
+    (Symbol::Tick, 55, b"'"),
+    (Symbol::Open, 57, b"("),
+    (Symbol::Close, 59, b")"),
+    (Symbol::OpenBrace, 61, b"{"),
+    (Symbol::CloseBrace, 63, b"}"),
+    (Symbol::Equals, 65, b"="),
+    (Symbol::Arrow, 67, b"=>"),
+    (Symbol::Semicolon, 70, b";"),
+    (Symbol::Dot, 72, b"."),
+    (Symbol::Backslash, 74, b"\\"),
+    (Symbol::Caret, 76, b"^"),
+];
 
 #[test]
 fn signs(rt: HostRuntime) -> Result<(), Fail> {
     let text = b"_ ! , : <: :> ~ + - * / % & | << >> < <= > >= == != @ ' ( ) { } = => ; . \\ ^";
-    let rows: [Row; 34] = [
-        (Symbol::Underscore, 1, b"_"),
-        (Symbol::Exclamation, 3, b"!"),
-        (Symbol::Comma, 5, b","),
-        (Symbol::Colon, 7, b":"),
-        (Symbol::Split, 9, b"<:"),
-        (Symbol::Merge, 12, b":>"),
-        (Symbol::Tilde, 15, b"~"),
-        (Symbol::Plus, 17, b"+"),
-        (Symbol::Minus, 19, b"-"),
-        (Symbol::Times, 21, b"*"),
-        (Symbol::Divide, 23, b"/"),
-        (Symbol::Percent, 25, b"%"),
-        (Symbol::Ampersand, 27, b"&"),
-        (Symbol::Bar, 29, b"|"),
-        (Symbol::ShiftLeft, 31, b"<<"),
-        (Symbol::ShiftRight, 34, b">>"),
-        (Symbol::Less, 37, b"<"),
-        (Symbol::LessEqual, 39, b"<="),
-        (Symbol::Greater, 42, b">"),
-        (Symbol::GreaterEqual, 44, b">="),
-        (Symbol::EqualEqual, 47, b"=="),
-        (Symbol::NotEqual, 50, b"!="),
-        (Symbol::At, 53, b"@"),
-        (Symbol::Tick, 55, b"'"),
-        (Symbol::Open, 57, b"("),
-        (Symbol::Close, 59, b")"),
-        (Symbol::OpenBrace, 61, b"{"),
-        (Symbol::CloseBrace, 63, b"}"),
-        (Symbol::Equals, 65, b"="),
-        (Symbol::Arrow, 67, b"=>"),
-        (Symbol::Semicolon, 70, b";"),
-        (Symbol::Dot, 72, b"."),
-        (Symbol::Backslash, 74, b"\\"),
-        (Symbol::Caret, 76, b"^"),
-    ];
-    expect_line(&rt, rt.alloc(), text, Kind::Sign, &rows)?;
+    expect_line(&rt, rt.alloc(), text, Kind::Sign, &SIGNS)?;
     Ok(())
 }
+
+// The tokens of `reserved_words`.
+static RESERVED_WORDS: [Row; 30] = [
+    (Symbol::Xor, 1, b"xor"),
+    (Symbol::Mem, 5, b"mem"),
+    (Symbol::Prefix, 9, b"prefix"),
+    (Symbol::Int, 16, b"int"),
+    (Symbol::Attach, 20, b"attach"),
+    (Symbol::Select2, 27, b"select2"),
+    (Symbol::Select3, 35, b"select3"),
+    (Symbol::Min, 43, b"min"),
+    (Symbol::Max, 47, b"max"),
+    (Symbol::Abs, 51, b"abs"),
+    (Symbol::Par, 55, b"par"),
+    (Symbol::Seq, 59, b"seq"),
+    (Symbol::Sum, 63, b"sum"),
+    (Symbol::Prod, 67, b"prod"),
+    (Symbol::Inputs, 72, b"inputs"),
+    (Symbol::Outputs, 79, b"outputs"),
+    (Symbol::Case, 87, b"case"),
+    (Symbol::With, 92, b"with"),
+    (Symbol::Declare, 97, b"declare"),
+    (Symbol::Button, 105, b"button"),
+    (Symbol::Checkbox, 112, b"checkbox"),
+    (Symbol::Hslider, 121, b"hslider"),
+    (Symbol::Vslider, 129, b"vslider"),
+    (Symbol::Nentry, 137, b"nentry"),
+    (Symbol::Hgroup, 144, b"hgroup"),
+    (Symbol::Vgroup, 151, b"vgroup"),
+    (Symbol::Tgroup, 158, b"tgroup"),
+    (Symbol::Rdtable, 165, b"rdtable"),
+    (Symbol::Rwtable, 173, b"rwtable"),
+    (Symbol::Waveform, 181, b"waveform"),
+];
 
 #[test]
 fn reserved_words(rt: HostRuntime) -> Result<(), Fail> {
     let text =
         b"xor mem prefix int attach select2 select3 min max abs par seq sum prod inputs outputs case with declare button checkbox hslider vslider nentry \
           hgroup vgroup tgroup rdtable rwtable waveform";
-    let rows: [Row; 30] = [
-        (Symbol::Xor, 1, b"xor"),
-        (Symbol::Mem, 5, b"mem"),
-        (Symbol::Prefix, 9, b"prefix"),
-        (Symbol::Int, 16, b"int"),
-        (Symbol::Attach, 20, b"attach"),
-        (Symbol::Select2, 27, b"select2"),
-        (Symbol::Select3, 35, b"select3"),
-        (Symbol::Min, 43, b"min"),
-        (Symbol::Max, 47, b"max"),
-        (Symbol::Abs, 51, b"abs"),
-        (Symbol::Par, 55, b"par"),
-        (Symbol::Seq, 59, b"seq"),
-        (Symbol::Sum, 63, b"sum"),
-        (Symbol::Prod, 67, b"prod"),
-        (Symbol::Inputs, 72, b"inputs"),
-        (Symbol::Outputs, 79, b"outputs"),
-        (Symbol::Case, 87, b"case"),
-        (Symbol::With, 92, b"with"),
-        (Symbol::Declare, 97, b"declare"),
-        (Symbol::Button, 105, b"button"),
-        (Symbol::Checkbox, 112, b"checkbox"),
-        (Symbol::Hslider, 121, b"hslider"),
-        (Symbol::Vslider, 129, b"vslider"),
-        (Symbol::Nentry, 137, b"nentry"),
-        (Symbol::Hgroup, 144, b"hgroup"),
-        (Symbol::Vgroup, 151, b"vgroup"),
-        (Symbol::Tgroup, 158, b"tgroup"),
-        (Symbol::Rdtable, 165, b"rdtable"),
-        (Symbol::Rwtable, 173, b"rwtable"),
-        (Symbol::Waveform, 181, b"waveform"),
-    ];
-    expect_line(&rt, rt.alloc(), text, Kind::Name, &rows)?;
+    expect_line(&rt, rt.alloc(), text, Kind::Name, &RESERVED_WORDS)?;
     Ok(())
 }
 
@@ -140,37 +141,39 @@ fn unsupported_words(rt: HostRuntime) -> Result<(), Fail> {
     Ok(())
 }
 
+// The tokens of `program`, each with its kind.
+static PROGRAM: [(Kind, Row); 18] = [
+    (Kind::Name, (Symbol::Declare, 1, b"declare")),
+    (Kind::Name, (Symbol::Name(1), 9, b"name")),
+    (Kind::Text, (Symbol::Text(2), 14, b"\"t\"")),
+    (Kind::Sign, (Symbol::Semicolon, 17, b";")),
+    (Kind::Name, (Symbol::Name(4), 27, b"process")),
+    (Kind::Sign, (Symbol::Equals, 35, b"=")),
+    (Kind::Name, (Symbol::Hgroup, 37, b"hgroup")),
+    (Kind::Sign, (Symbol::Open, 43, b"(")),
+    (Kind::Text, (Symbol::Text(8), 44, b"\"m\"")),
+    (Kind::Sign, (Symbol::Comma, 47, b",")),
+    (Kind::Sign, (Symbol::Underscore, 49, b"_")),
+    (Kind::Sign, (Symbol::Times, 51, b"*")),
+    (Kind::Name, (Symbol::Button, 53, b"button")),
+    (Kind::Sign, (Symbol::Open, 59, b"(")),
+    (Kind::Text, (Symbol::Text(14), 60, b"\"on\"")),
+    (Kind::Sign, (Symbol::Close, 64, b")")),
+    (Kind::Sign, (Symbol::Close, 65, b")")),
+    (Kind::Sign, (Symbol::Semicolon, 66, b";")),
+];
+
 /// A program with comments, strings and calls, behind a line of its own.
 #[test]
 fn program(rt: HostRuntime) -> Result<(), Fail> {
     let text =
         b"/* two\n lines */\ndeclare name \"t\"; /* c */ process = hgroup(\"m\", _ * button(\"on\")); // end";
-    let rows: [(Kind, Row); 18] = [
-        (Kind::Name, (Symbol::Declare, 1, b"declare")),
-        (Kind::Name, (Symbol::Name(1), 9, b"name")),
-        (Kind::Text, (Symbol::Text(2), 14, b"\"t\"")),
-        (Kind::Sign, (Symbol::Semicolon, 17, b";")),
-        (Kind::Name, (Symbol::Name(4), 27, b"process")),
-        (Kind::Sign, (Symbol::Equals, 35, b"=")),
-        (Kind::Name, (Symbol::Hgroup, 37, b"hgroup")),
-        (Kind::Sign, (Symbol::Open, 43, b"(")),
-        (Kind::Text, (Symbol::Text(8), 44, b"\"m\"")),
-        (Kind::Sign, (Symbol::Comma, 47, b",")),
-        (Kind::Sign, (Symbol::Underscore, 49, b"_")),
-        (Kind::Sign, (Symbol::Times, 51, b"*")),
-        (Kind::Name, (Symbol::Button, 53, b"button")),
-        (Kind::Sign, (Symbol::Open, 59, b"(")),
-        (Kind::Text, (Symbol::Text(14), 60, b"\"on\"")),
-        (Kind::Sign, (Symbol::Close, 64, b")")),
-        (Kind::Sign, (Symbol::Close, 65, b")")),
-        (Kind::Sign, (Symbol::Semicolon, 66, b";")),
-    ];
     let found = tokens(rt.alloc(), text)?;
-    let mut i = 0;
-    for (kind, row) in &rows {
-        i = expect_token(&rt, &found, i, *kind, 3, row);
+    assert_eq!(rt; found.len() as usize, PROGRAM.len());
+    for i in 0..found.len() {
+        let (kind, row) = &PROGRAM[i as usize];
+        assert!(rt; is_token(&found, i, *kind, 3, row), "token {i}");
     }
-    assert_eq!(rt; found.len(), i);
     let end = Place {
         line: 3,
         column: 74,
@@ -179,101 +182,105 @@ fn program(rt: HostRuntime) -> Result<(), Fail> {
     Ok(())
 }
 
+// Texts, and the symbols of their tokens.
+static LONGEST_TOKENS: [(&[u8], &[Symbol]); 20] = [
+    (
+        b"__1",
+        &[Symbol::Underscore, Symbol::Underscore, Symbol::Integer(1)],
+    ),
+    (b"___a1_", &[Symbol::Name(0)]),
+    (b"1f2", &[Symbol::Integer(1), Symbol::Name(1)]),
+    (b"1e", &[Symbol::Integer(1), Symbol::Name(1)]),
+    (
+        b"1e+x",
+        &[
+            Symbol::Integer(1),
+            Symbol::Name(1),
+            Symbol::Plus,
+            Symbol::Name(3),
+        ],
+    ),
+    (b"a.b", &[Symbol::Name(0), Symbol::Dot, Symbol::Name(2)]),
+    (b":>=", &[Symbol::Merge, Symbol::Equals]),
+    (b"<:>", &[Symbol::Split, Symbol::Greater]),
+    (b"==>", &[Symbol::EqualEqual, Symbol::Greater]),
+    (b"=>=", &[Symbol::Arrow, Symbol::Equals]),
+    (b"/***/x", &[Symbol::Name(0)]),
+    (b"/* // */1", &[Symbol::Integer(1)]),
+    (b"// \xff end", &[]),
+    (
+        b"a/b//c\n/d",
+        &[
+            Symbol::Name(0),
+            Symbol::Divide,
+            Symbol::Name(2),
+            Symbol::Divide,
+            Symbol::Name(4),
+        ],
+    ),
+    (b"2147483647", &[Symbol::Integer(2147483647)]),
+    (b"000000000000001", &[Symbol::Integer(1)]),
+    (b"minx", &[Symbol::Name(0)]),
+    (b"\"/*\x00\n\"", &[Symbol::Text(0)]),
+    (b")}(", &[Symbol::Close, Symbol::CloseBrace, Symbol::Open]),
+    (b"", &[]),
+];
+
 #[test]
 fn longest_tokens(rt: HostRuntime) -> Result<(), Fail> {
-    let rows: [(&[u8], &[Symbol]); 20] = [
-        (
-            b"__1",
-            &[Symbol::Underscore, Symbol::Underscore, Symbol::Integer(1)],
-        ),
-        (b"___a1_", &[Symbol::Name(0)]),
-        (b"1f2", &[Symbol::Integer(1), Symbol::Name(1)]),
-        (b"1e", &[Symbol::Integer(1), Symbol::Name(1)]),
-        (
-            b"1e+x",
-            &[
-                Symbol::Integer(1),
-                Symbol::Name(1),
-                Symbol::Plus,
-                Symbol::Name(3),
-            ],
-        ),
-        (b"a.b", &[Symbol::Name(0), Symbol::Dot, Symbol::Name(2)]),
-        (b":>=", &[Symbol::Merge, Symbol::Equals]),
-        (b"<:>", &[Symbol::Split, Symbol::Greater]),
-        (b"==>", &[Symbol::EqualEqual, Symbol::Greater]),
-        (b"=>=", &[Symbol::Arrow, Symbol::Equals]),
-        (b"/***/x", &[Symbol::Name(0)]),
-        (b"/* // */1", &[Symbol::Integer(1)]),
-        (b"// \xff end", &[]),
-        (
-            b"a/b//c\n/d",
-            &[
-                Symbol::Name(0),
-                Symbol::Divide,
-                Symbol::Name(2),
-                Symbol::Divide,
-                Symbol::Name(4),
-            ],
-        ),
-        (b"2147483647", &[Symbol::Integer(2147483647)]),
-        (b"000000000000001", &[Symbol::Integer(1)]),
-        (b"minx", &[Symbol::Name(0)]),
-        (b"\"/*\x00\n\"", &[Symbol::Text(0)]),
-        (b")}(", &[Symbol::Close, Symbol::CloseBrace, Symbol::Open]),
-        (b"", &[]),
-    ];
-    for (text, symbols) in rows {
+    for (text, symbols) in &LONGEST_TOKENS {
         let found = tokens(rt.alloc(), text)?;
-        assert!(rt; found.symbols() == symbols, "{text:?}");
+        assert!(rt; found.symbols() == *symbols, "{text:?}");
     }
     Ok(())
 }
 
+// Texts, and the first refusal of each.
+static FIRST_REFUSALS: [(&[u8], LexRefusal); 17] = [
+    (
+        b"process = #;",
+        LexRefusal::BadByte {
+            line: 1,
+            column: 11,
+        },
+    ),
+    (b"/* ab", LexRefusal::Unclosed { line: 1, column: 1 }),
+    (
+        b"process = _ * 0.5;",
+        LexRefusal::RealLiteral {
+            line: 1,
+            column: 15,
+        },
+    ),
+    (
+        b"process = 2147483648;",
+        LexRefusal::LiteralTooLarge {
+            line: 1,
+            column: 11,
+        },
+    ),
+    (b" \"ab", LexRefusal::Unclosed { line: 1, column: 2 }),
+    (b"/*/", LexRefusal::Unclosed { line: 1, column: 1 }),
+    (b"x .5", LexRefusal::RealLiteral { line: 1, column: 3 }),
+    (b"1.", LexRefusal::RealLiteral { line: 1, column: 1 }),
+    (b"12e-3", LexRefusal::RealLiteral { line: 1, column: 1 }),
+    (b"1E5", LexRefusal::RealLiteral { line: 1, column: 1 }),
+    (b"1f", LexRefusal::RealLiteral { line: 1, column: 1 }),
+    (b"x1.5", LexRefusal::RealLiteral { line: 1, column: 3 }),
+    (
+        b"99999999999.",
+        LexRefusal::RealLiteral { line: 1, column: 1 },
+    ),
+    (b"a\n\n \x80", LexRefusal::BadByte { line: 3, column: 2 }),
+    (b"\x7f", LexRefusal::BadByte { line: 1, column: 1 }),
+    (b"\x00", LexRefusal::BadByte { line: 1, column: 1 }),
+    (b"# /*", LexRefusal::BadByte { line: 1, column: 1 }),
+];
+
 #[test]
 fn first_refusals(rt: HostRuntime) -> Result<(), Fail> {
-    let rows: [(&[u8], LexRefusal); 17] = [
-        (
-            b"process = #;",
-            LexRefusal::BadByte {
-                line: 1,
-                column: 11,
-            },
-        ),
-        (b"/* ab", LexRefusal::Unclosed { line: 1, column: 1 }),
-        (
-            b"process = _ * 0.5;",
-            LexRefusal::RealLiteral {
-                line: 1,
-                column: 15,
-            },
-        ),
-        (
-            b"process = 2147483648;",
-            LexRefusal::LiteralTooLarge {
-                line: 1,
-                column: 11,
-            },
-        ),
-        (b" \"ab", LexRefusal::Unclosed { line: 1, column: 2 }),
-        (b"/*/", LexRefusal::Unclosed { line: 1, column: 1 }),
-        (b"x .5", LexRefusal::RealLiteral { line: 1, column: 3 }),
-        (b"1.", LexRefusal::RealLiteral { line: 1, column: 1 }),
-        (b"12e-3", LexRefusal::RealLiteral { line: 1, column: 1 }),
-        (b"1E5", LexRefusal::RealLiteral { line: 1, column: 1 }),
-        (b"1f", LexRefusal::RealLiteral { line: 1, column: 1 }),
-        (b"x1.5", LexRefusal::RealLiteral { line: 1, column: 3 }),
-        (
-            b"99999999999.",
-            LexRefusal::RealLiteral { line: 1, column: 1 },
-        ),
-        (b"a\n\n \x80", LexRefusal::BadByte { line: 3, column: 2 }),
-        (b"\x7f", LexRefusal::BadByte { line: 1, column: 1 }),
-        (b"\x00", LexRefusal::BadByte { line: 1, column: 1 }),
-        (b"# /*", LexRefusal::BadByte { line: 1, column: 1 }),
-    ];
-    for (text, refusal) in rows {
-        assert_eq!(rt; tokens(rt.alloc(), text).err(), Some(refusal), "{text:?}");
+    for (text, refusal) in &FIRST_REFUSALS {
+        assert_eq!(rt; tokens(rt.alloc(), text).err(), Some(*refusal), "{text:?}");
     }
     Ok(())
 }

@@ -1,6 +1,7 @@
 // Rows of the table of spans, from outside.
 
 use fv_num::{Op, Span, span_of};
+use std::process::Abort;
 
 // An operation of two numbers, with pairs of spans and the span of its values.
 static ROWS: [(Op, &[[(i32, i32); 3]]); 18] = [
@@ -116,49 +117,57 @@ static ROWS: [(Op, &[[(i32, i32); 3]]); 18] = [
     (Op::Max, &[[(1, 5), (3, 4), (3, 5)]]),
 ];
 
+/// The span from one number to another.
+fn span(rt: &impl Abort, lo: i32, hi: i32) -> Span {
+    assert!(rt; lo <= hi);
+    Span { lo, hi }
+}
+
+/// The values of the operation, on inputs of these spans, have this span.
+fn expect_span(rt: &impl Abort, op: Op, inputs: &[Span], want: (i32, i32)) {
+    assert!(rt; op.inputs() as usize == inputs.len());
+    let found = span_of(op, inputs);
+    assert!(rt;
+        (found.lo, found.hi) == want,
+        "{op:?} {inputs:?}: {found:?}"
+    );
+}
+
 #[test]
 fn spans_of_two(rt: HostRuntime) {
-    for (op, rows) in ROWS {
-        assert_eq!(rt; op.inputs(), 2);
-        for [(xl, xh), (yl, yh), (lo, hi)] in rows {
-            assert!(rt; *xl <= *xh && *yl <= *yh);
-            let span = span_of(op, &[Span { lo: *xl, hi: *xh }, Span { lo: *yl, hi: *yh }]);
-            assert_eq!(rt;
-                (span.lo, span.hi),
-                (*lo, *hi),
-                "{op:?} {xl} {xh} {yl} {yh}"
-            );
+    for (op, rows) in &ROWS {
+        for [x, y, want] in *rows {
+            let inputs = [span(&rt, x.0, x.1), span(&rt, y.0, y.1)];
+            expect_span(&rt, *op, &inputs, *want);
         }
     }
 }
 
+// A span, and that of the magnitudes of its numbers.
+static MAGNITUDES: [[(i32, i32); 2]; 7] = [
+    [(3, 5), (3, 5)],
+    [(-5, -3), (3, 5)],
+    [(-5, 3), (0, 5)],
+    [(-2, 3), (0, 3)],
+    [(-5, 0), (0, 5)],
+    [(-i32::MAX, 0), (0, i32::MAX)],
+    [(i32::MIN, 0), (i32::MIN, i32::MAX)],
+];
+
 #[test]
-fn spans_of_magnitudes_and_choices(rt: HostRuntime) {
-    assert_eq!(rt; Op::Abs.inputs(), 1);
-    for (xl, xh, lo, hi) in [
-        (3, 5, 3, 5),
-        (-5, -3, 3, 5),
-        (-5, 3, 0, 5),
-        (-2, 3, 0, 3),
-        (-5, 0, 0, 5),
-        (-i32::MAX, 0, 0, i32::MAX),
-        (i32::MIN, 0, i32::MIN, i32::MAX),
-    ] {
-        assert!(rt; xl <= xh);
-        let span = span_of(Op::Abs, &[Span { lo: xl, hi: xh }]);
-        assert_eq!(rt; (span.lo, span.hi), (lo, hi), "{xl} {xh}");
+fn spans_of_magnitudes(rt: HostRuntime) {
+    for [x, want] in &MAGNITUDES {
+        expect_span(&rt, Op::Abs, &[span(&rt, x.0, x.1)], *want);
     }
-    let bit = Span { lo: 0, hi: 1 };
-    let choices = [bit, Span::point(7), Span { lo: -2, hi: 3 }];
-    assert_eq!(rt; Op::Select2.inputs(), 3);
-    let span = span_of(Op::Select2, &choices);
-    assert_eq!(rt; (span.lo, span.hi), (-2, 7));
-    assert_eq!(rt; Op::Select3.inputs(), 4);
-    let span = span_of(
-        Op::Select3,
-        &[bit, Span::point(7), Span::point(9), Span::point(-4)],
-    );
-    assert_eq!(rt; (span.lo, span.hi), (-4, 9));
+}
+
+#[test]
+fn spans_of_choices(rt: HostRuntime) {
+    let bit = span(&rt, 0, 1);
+    let seven = Span::point(7);
+    expect_span(&rt, Op::Select2, &[bit, seven, span(&rt, -2, 3)], (-2, 7));
+    let choices = [bit, seven, Span::point(9), Span::point(-4)];
+    expect_span(&rt, Op::Select3, &choices, (-4, 9));
     let all = Span::full();
-    assert_eq!(rt; (all.lo, all.hi), (i32::MIN, i32::MAX));
+    assert!(rt; (all.lo, all.hi) == (i32::MIN, i32::MAX));
 }

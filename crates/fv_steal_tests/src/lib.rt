@@ -1,5 +1,7 @@
-// Tests of workers that steal.
+// Tests of a worker's deque, and of workers that steal.
 #![tactic(auto)]
 
+#[cfg(test)]
+mod ends;
 #[cfg(test)]
 mod rows;

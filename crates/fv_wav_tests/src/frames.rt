@@ -25,18 +25,22 @@ fn written(alloc: Global, bits: u32, samples: [i32; 2]) -> Result<Vec<u8>, Fail>
     Ok(Vec::from_slice(alloc, desk.written(Role::Output))?)
 }
 
+// A width, two samples, and their bytes.
+static WRITTEN: [(u32, [i32; 2], &[u8]); 5] = [
+    (8, [-128, 127], b"\0\xff"),
+    (8, [0, 128], b"\x80\xff"),
+    (16, [-2, 40000], b"\xfe\xff\xff\x7f"),
+    (24, [-2, -8388609], b"\xfe\xff\xff\0\0\x80"),
+    (32, [-2147483648, 258], b"\0\0\0\x80\x02\x01\0\0"),
+];
+
 #[test]
 fn samples_are_written(rt: HostRuntime) -> Result<(), Fail> {
-    let alloc = rt.alloc();
-    assert!(rt; written(alloc, 8, [-128, 127])?.as_slice() == b"\0\xff".as_slice());
-    assert!(rt; written(alloc, 8, [0, 128])?.as_slice() == b"\x80\xff".as_slice());
-    assert!(rt; written(alloc, 16, [-2, 40000])?.as_slice() == b"\xfe\xff\xff\x7f".as_slice());
-    assert!(rt;
-        written(alloc, 24, [-2, -8388609])?.as_slice() == b"\xfe\xff\xff\0\0\x80".as_slice()
-    );
-    assert!(rt;
-        written(alloc, 32, [-2147483648, 258])?.as_slice() == b"\0\0\0\x80\x02\x01\0\0".as_slice()
-    );
+    for (bits, samples, bytes) in &WRITTEN {
+        assert!(rt; matches!(*bits, 8 | 16 | 24 | 32));
+        let found = written(rt.alloc(), *bits, *samples)?;
+        assert!(rt; found.as_slice() == *bytes, "{bits}: {samples:?}");
+    }
     Ok(())
 }
 
@@ -78,25 +82,40 @@ fn faulty(alloc: Global, call: u32) -> Result<(Result<(), WriteRefusal>, usize),
     Ok((answer, desk.written(Role::Output).len()))
 }
 
+// A call that fails, whether the file is then refused, and how many bytes were written.
+static WRITE_FAULTS: [(u32, bool, usize); 4] = [
+    (0, true, 0),
+    (2, true, 4),
+    (11, true, 44),
+    (12, false, 50),
+];
+
 #[test]
 fn write_faults(rt: HostRuntime) -> Result<(), Fail> {
-    let alloc = rt.alloc();
-    let fault = Err(WriteRefusal::WriteFault { role: Role::Output });
-    assert_eq!(rt; faulty(alloc, 0)?, (fault, 0));
-    assert_eq!(rt; faulty(alloc, 2)?, (fault, 4));
-    assert_eq!(rt; faulty(alloc, 11)?, (fault, 44));
-    assert_eq!(rt; faulty(alloc, 12)?, (Ok(()), 50));
+    let fault = WriteRefusal::WriteFault { role: Role::Output };
+    for (call, fails, length) in &WRITE_FAULTS {
+        let answer = if *fails { Err(fault) } else { Ok(()) };
+        assert_eq!(rt; faulty(rt.alloc(), *call)?, (answer, *length), "{call}");
+    }
     Ok(())
 }
 
+// Channels, a width and a number of frames, and how many bytes those are.
+static LENGTHS: [(u32, u32, u32, Option<u32>); 5] = [
+    (1, 16, 3, Some(6)),
+    (2, 24, 715827876, Some(4294967256)),
+    (1, 16, 2147483629, Some(4294967258)),
+    (1, 16, 2147483630, None),
+    (256, 32, 4294967295, None),
+];
+
 #[test]
-fn lengths(rt: HostRuntime) -> Result<(), Fail> {
-    assert_eq!(rt; data_length(1, 16, 3), Some(6));
-    assert_eq!(rt; data_length(2, 24, 715827876), Some(4294967256));
-    assert_eq!(rt; data_length(1, 16, 2147483629), Some(4294967258));
-    assert_eq!(rt; data_length(1, 16, 2147483630), None);
-    assert_eq!(rt; data_length(256, 32, 4294967295), None);
-    Ok(())
+fn lengths(rt: HostRuntime) {
+    for (channels, bits, frames, length) in &LENGTHS {
+        assert!(rt; matches!(*bits, 8 | 16 | 24 | 32));
+        let found = data_length(*channels, *bits, *frames);
+        assert_eq!(rt; found, *length, "{channels} {bits} {frames}");
+    }
 }
 
 #[test]

@@ -68,35 +68,39 @@ fn heads(rt: HostRuntime) -> Result<(), Fail> {
     Ok(())
 }
 
+// Changes of the plain file, the lengths at which it is cut, and what refuses it.
+static PLAIN_REFUSALS: [(Change, usize, WaveRefusal); 13] = [
+    ((0, b'X'), 50, WaveRefusal::NotWave { place: 0 }),
+    ((8, b'w'), 50, WaveRefusal::NotWave { place: 0 }),
+    ((0, b'X'), 11, WaveRefusal::WaveTruncated { place: 11 }),
+    ((0, b'R'), 0, WaveRefusal::WaveTruncated { place: 0 }),
+    ((0, b'R'), 15, WaveRefusal::WaveTruncated { place: 15 }),
+    ((0, b'R'), 43, WaveRefusal::WaveTruncated { place: 43 }),
+    ((16, 15), 50, WaveRefusal::WaveFormat { place: 16 }),
+    ((20, 3), 50, WaveRefusal::WaveFormat { place: 20 }),
+    ((22, 0), 50, WaveRefusal::WaveFormat { place: 22 }),
+    ((23, 1), 50, WaveRefusal::WaveFormat { place: 22 }),
+    ((32, 3), 50, WaveRefusal::WaveFormat { place: 32 }),
+    ((34, 12), 50, WaveRefusal::WaveFormat { place: 34 }),
+    ((39, b'e'), 50, WaveRefusal::WaveTruncated { place: 50 }),
+];
+
 #[test]
 fn plain_files_that_break_a_rule(rt: HostRuntime) -> Result<(), Fail> {
-    let rows: [(Change, usize, WaveRefusal); 13] = [
-        ((0, b'X'), 50, WaveRefusal::NotWave { place: 0 }),
-        ((8, b'w'), 50, WaveRefusal::NotWave { place: 0 }),
-        ((0, b'X'), 11, WaveRefusal::WaveTruncated { place: 11 }),
-        ((0, b'R'), 0, WaveRefusal::WaveTruncated { place: 0 }),
-        ((0, b'R'), 15, WaveRefusal::WaveTruncated { place: 15 }),
-        ((0, b'R'), 43, WaveRefusal::WaveTruncated { place: 43 }),
-        ((16, 15), 50, WaveRefusal::WaveFormat { place: 16 }),
-        ((20, 3), 50, WaveRefusal::WaveFormat { place: 20 }),
-        ((22, 0), 50, WaveRefusal::WaveFormat { place: 22 }),
-        ((23, 1), 50, WaveRefusal::WaveFormat { place: 22 }),
-        ((32, 3), 50, WaveRefusal::WaveFormat { place: 32 }),
-        ((34, 12), 50, WaveRefusal::WaveFormat { place: 34 }),
-        ((39, b'e'), 50, WaveRefusal::WaveTruncated { place: 50 }),
-    ];
-    expect_refusals(&rt, rt.alloc(), &PLAIN, &rows)
+    expect_refusals(&rt, rt.alloc(), &PLAIN, &PLAIN_REFUSALS)
 }
+
+// The same of the extensible file.
+static EXTENSIBLE_REFUSALS: [(Change, usize, WaveRefusal); 4] = [
+    ((16, 39), 86, WaveRefusal::WaveFormat { place: 16 }),
+    ((44, 2), 86, WaveRefusal::WaveFormat { place: 44 }),
+    ((0, b'R'), 59, WaveRefusal::WaveTruncated { place: 59 }),
+    ((64, 2), 86, WaveRefusal::WaveTruncated { place: 86 }),
+];
 
 #[test]
 fn extensible_files_that_break_a_rule(rt: HostRuntime) -> Result<(), Fail> {
-    let rows: [(Change, usize, WaveRefusal); 4] = [
-        ((16, 39), 86, WaveRefusal::WaveFormat { place: 16 }),
-        ((44, 2), 86, WaveRefusal::WaveFormat { place: 44 }),
-        ((0, b'R'), 59, WaveRefusal::WaveTruncated { place: 59 }),
-        ((64, 2), 86, WaveRefusal::WaveTruncated { place: 86 }),
-    ];
-    expect_refusals(&rt, rt.alloc(), &EXTENSIBLE, &rows)
+    expect_refusals(&rt, rt.alloc(), &EXTENSIBLE, &EXTENSIBLE_REFUSALS)
 }
 
 /// The head of a file of these pieces.

@@ -1,5 +1,0 @@
-// Tests of a worker's deque.
-#![tactic(auto)]
-
-#[cfg(test)]
-mod ends;
