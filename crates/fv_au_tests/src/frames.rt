@@ -72,14 +72,21 @@ fn faulty(alloc: Global, call: u32) -> Result<(Result<(), WriteRefusal>, usize),
     Ok((answer, desk.written(Role::Output).len()))
 }
 
+// A call that fails, whether the file is then refused, and how many bytes were written.
+static WRITE_FAULTS: [(u32, bool, usize); 4] = [
+    (0, true, 0),
+    (2, true, 4),
+    (7, true, 24),
+    (8, false, 30),
+];
+
 #[test]
 fn write_faults(rt: HostRuntime) -> Result<(), Fail> {
-    let alloc = rt.alloc();
-    let fault = Err(WriteRefusal::WriteFault { role: Role::Output });
-    assert_eq!(rt; faulty(alloc, 0)?, (fault, 0));
-    assert_eq!(rt; faulty(alloc, 2)?, (fault, 4));
-    assert_eq!(rt; faulty(alloc, 7)?, (fault, 24));
-    assert_eq!(rt; faulty(alloc, 8)?, (Ok(()), 30));
+    let fault = WriteRefusal::WriteFault { role: Role::Output };
+    for (call, fails, length) in &WRITE_FAULTS {
+        let answer = if *fails { Err(fault) } else { Ok(()) };
+        assert_eq!(rt; faulty(rt.alloc(), *call)?, (answer, *length), "{call}");
+    }
     Ok(())
 }
 

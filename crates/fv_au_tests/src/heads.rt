@@ -48,25 +48,27 @@ fn changed(
     head_of(alloc, &behind)
 }
 
+// A place and the byte that is put there, the length at which the file is cut, and what refuses it.
+static CHANGED: [(usize, u8, usize, AuRefusal); 10] = [
+    (7, 24, 7, AuRefusal::AuTruncated { place: 7 }),
+    (7, 23, 8, AuRefusal::AuFormat { place: 4 }),
+    (7, 24, 15, AuRefusal::AuTruncated { place: 15 }),
+    (15, 1, 16, AuRefusal::AuFormat { place: 12 }),
+    (15, 6, 16, AuRefusal::AuFormat { place: 12 }),
+    (7, 24, 23, AuRefusal::AuTruncated { place: 23 }),
+    (23, 0, 30, AuRefusal::AuFormat { place: 20 }),
+    (21, 1, 30, AuRefusal::AuFormat { place: 20 }),
+    (7, 31, 30, AuRefusal::AuTruncated { place: 30 }),
+    (4, 1, 30, AuRefusal::AuTruncated { place: 30 }),
+];
+
 #[test]
 fn heads(rt: HostRuntime) -> Result<(), Fail> {
     let alloc = rt.alloc();
     assert_eq!(rt; head_of(alloc, &THREE)?, Ok(HEAD));
     assert_eq!(rt; changed(alloc, 7, 24, 24)?, Ok(HEAD));
-    let rows: [(usize, u8, usize, AuRefusal); 10] = [
-        (7, 24, 7, AuRefusal::AuTruncated { place: 7 }),
-        (7, 23, 8, AuRefusal::AuFormat { place: 4 }),
-        (7, 24, 15, AuRefusal::AuTruncated { place: 15 }),
-        (15, 1, 16, AuRefusal::AuFormat { place: 12 }),
-        (15, 6, 16, AuRefusal::AuFormat { place: 12 }),
-        (7, 24, 23, AuRefusal::AuTruncated { place: 23 }),
-        (23, 0, 30, AuRefusal::AuFormat { place: 20 }),
-        (21, 1, 30, AuRefusal::AuFormat { place: 20 }),
-        (7, 31, 30, AuRefusal::AuTruncated { place: 30 }),
-        (4, 1, 30, AuRefusal::AuTruncated { place: 30 }),
-    ];
-    for (place, value, length, refusal) in rows {
-        assert_eq!(rt; changed(alloc, place, value, length)?, Err(refusal));
+    for (place, value, length, refusal) in &CHANGED {
+        assert_eq!(rt; changed(alloc, *place, *value, *length)?, Err(*refusal));
     }
     Ok(())
 }

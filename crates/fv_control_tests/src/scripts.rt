@@ -60,26 +60,28 @@ fn expect_changes(
     Ok(())
 }
 
+// Texts, and their changes.
+static CHANGES: [(&[u8], &[(u32, u32, i32)]); 12] = [
+    (b"", &[]),
+    (b"\n\r\n# 5 g 1\n", &[]),
+    (b"5 g 1", &[(5, 0, 1)]),
+    (b"5 g 1\n", &[(5, 0, 1)]),
+    (b"5 g 1\r\n", &[(5, 0, 1)]),
+    (b"5 g 0\n5 g 10\n", &[(5, 0, 0), (5, 0, 10)]),
+    (b"0 my gain 3\n", &[(0, 1, 3)]),
+    (b"0  g 1\n", &[(0, 2, 1)]),
+    (b"0000000001 g 0000000002\n", &[(1, 0, 2)]),
+    (b"4294967295 g 1\n", &[(4294967295, 0, 1)]),
+    (
+        b"0 my gain -2147483648\n0 my gain 2147483647\n",
+        &[(0, 1, -2147483648), (0, 1, 2147483647)],
+    ),
+    (b"0 g -0\n", &[(0, 0, 0)]),
+];
+
 #[test]
 fn changes(rt: HostRuntime) -> Result<(), Fail> {
-    let rows: [(&[u8], &[(u32, u32, i32)]); 12] = [
-        (b"", &[]),
-        (b"\n\r\n# 5 g 1\n", &[]),
-        (b"5 g 1", &[(5, 0, 1)]),
-        (b"5 g 1\n", &[(5, 0, 1)]),
-        (b"5 g 1\r\n", &[(5, 0, 1)]),
-        (b"5 g 0\n5 g 10\n", &[(5, 0, 0), (5, 0, 10)]),
-        (b"0 my gain 3\n", &[(0, 1, 3)]),
-        (b"0  g 1\n", &[(0, 2, 1)]),
-        (b"0000000001 g 0000000002\n", &[(1, 0, 2)]),
-        (b"4294967295 g 1\n", &[(4294967295, 0, 1)]),
-        (
-            b"0 my gain -2147483648\n0 my gain 2147483647\n",
-            &[(0, 1, -2147483648), (0, 1, 2147483647)],
-        ),
-        (b"0 g -0\n", &[(0, 0, 0)]),
-    ];
-    expect_changes(&rt, rt.alloc(), &rows)
+    expect_changes(&rt, rt.alloc(), &CHANGES)
 }
 
 /// Each text is refused so.
@@ -97,35 +99,37 @@ fn expect_refusals(
     Ok(())
 }
 
+// Texts, and what refuses them.
+static REFUSALS: [(&[u8], ScriptRefusal); 18] = [
+    (b"x g 1", ScriptRefusal::ControlLine { line: 1 }),
+    (b"\n# a\n1 g\n", ScriptRefusal::ControlLine { line: 3 }),
+    (b"0  1", ScriptRefusal::ControlLine { line: 1 }),
+    (b" 0 g 1", ScriptRefusal::ControlLine { line: 1 }),
+    (b"0 g 1 ", ScriptRefusal::ControlLine { line: 1 }),
+    (b"0 g 1\r\r", ScriptRefusal::ControlLine { line: 1 }),
+    (b"0 g +1", ScriptRefusal::ControlLine { line: 1 }),
+    (b"0 g -", ScriptRefusal::ControlLine { line: 1 }),
+    (b"00000000001 g 1", ScriptRefusal::ControlLine { line: 1 }),
+    (b"4294967296 g 1", ScriptRefusal::ControlLine { line: 1 }),
+    (
+        b"0 my gain 2147483648",
+        ScriptRefusal::ControlLine { line: 1 },
+    ),
+    (
+        b"0 my gain -2147483649",
+        ScriptRefusal::ControlLine { line: 1 },
+    ),
+    (b"0 h 99\n", ScriptRefusal::ControlUnknown { line: 1 }),
+    (b"0 G 1\n", ScriptRefusal::ControlUnknown { line: 1 }),
+    (b"9 g 1\n0 g 11\n", ScriptRefusal::ControlRange { line: 2 }),
+    (b"0 g -1\n", ScriptRefusal::ControlRange { line: 1 }),
+    (b"3 g 1\n2 g 1\n", ScriptRefusal::ControlOrder { line: 2 }),
+    (b"1 g 1\nx\n0 g 1\n", ScriptRefusal::ControlLine { line: 2 }),
+];
+
 #[test]
 fn refusals(rt: HostRuntime) -> Result<(), Fail> {
-    let rows: [(&[u8], ScriptRefusal); 18] = [
-        (b"x g 1", ScriptRefusal::ControlLine { line: 1 }),
-        (b"\n# a\n1 g\n", ScriptRefusal::ControlLine { line: 3 }),
-        (b"0  1", ScriptRefusal::ControlLine { line: 1 }),
-        (b" 0 g 1", ScriptRefusal::ControlLine { line: 1 }),
-        (b"0 g 1 ", ScriptRefusal::ControlLine { line: 1 }),
-        (b"0 g 1\r\r", ScriptRefusal::ControlLine { line: 1 }),
-        (b"0 g +1", ScriptRefusal::ControlLine { line: 1 }),
-        (b"0 g -", ScriptRefusal::ControlLine { line: 1 }),
-        (b"00000000001 g 1", ScriptRefusal::ControlLine { line: 1 }),
-        (b"4294967296 g 1", ScriptRefusal::ControlLine { line: 1 }),
-        (
-            b"0 my gain 2147483648",
-            ScriptRefusal::ControlLine { line: 1 },
-        ),
-        (
-            b"0 my gain -2147483649",
-            ScriptRefusal::ControlLine { line: 1 },
-        ),
-        (b"0 h 99\n", ScriptRefusal::ControlUnknown { line: 1 }),
-        (b"0 G 1\n", ScriptRefusal::ControlUnknown { line: 1 }),
-        (b"9 g 1\n0 g 11\n", ScriptRefusal::ControlRange { line: 2 }),
-        (b"0 g -1\n", ScriptRefusal::ControlRange { line: 1 }),
-        (b"3 g 1\n2 g 1\n", ScriptRefusal::ControlOrder { line: 2 }),
-        (b"1 g 1\nx\n0 g 1\n", ScriptRefusal::ControlLine { line: 2 }),
-    ];
-    expect_refusals(&rt, rt.alloc(), &rows)
+    expect_refusals(&rt, rt.alloc(), &REFUSALS)
 }
 
 /// So many bytes of this value.

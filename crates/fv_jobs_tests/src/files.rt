@@ -20,32 +20,34 @@ fn expect_texts(rt: &impl Abort, alloc: Global, file: &[u8], texts: &[&[u8]]) {
     }
 }
 
+// Files, and the texts of their jobs.
+static TEXTS: [(&[u8], &[&[u8]]); 15] = [
+    (b"", &[b""]),
+    (b"process = _;", &[b"process = _;"]),
+    (b"a\n%%\nb\n", &[b"a\n", b"b\n"]),
+    (b"a\n%%\nb", &[b"a\n", b"b"]),
+    (b"a\r\n%%\r\nb\r\n", &[b"a\r\n", b"b\r\n"]),
+    // A last line that separates has an empty job behind it.
+    (b"a\n%%", &[b"a\n", b""]),
+    (b"a\n%%\n", &[b"a\n", b""]),
+    (b"a\n%%\r", &[b"a\n", b""]),
+    (b"%%", &[b"", b""]),
+    (b"%%\n%%\n", &[b"", b"", b""]),
+    // No line but `%%` separates.
+    (
+        b"a\n%%%\n%% \n %%\n%\n%%\r\r\n%%b\n",
+        &[b"a\n%%%\n%% \n %%\n%\n%%\r\r\n%%b\n"],
+    ),
+    (b"a %%\nb", &[b"a %%\nb"]),
+    (b"a\r%%\rb", &[b"a\r%%\rb"]),
+    // It does within a comment and within a string.
+    (b"/*\n%%\n*/", &[b"/*\n", b"*/"]),
+    (b"x = \"\n%%\n\";\n\0\xff", &[b"x = \"\n", b"\";\n\0\xff"]),
+];
+
 #[test]
 fn texts(rt: HostRuntime) -> Result<(), Fail> {
-    let rows: [(&[u8], &[&[u8]]); 15] = [
-        (b"", &[b""]),
-        (b"process = _;", &[b"process = _;"]),
-        (b"a\n%%\nb\n", &[b"a\n", b"b\n"]),
-        (b"a\n%%\nb", &[b"a\n", b"b"]),
-        (b"a\r\n%%\r\nb\r\n", &[b"a\r\n", b"b\r\n"]),
-        // A last line that separates has an empty job behind it.
-        (b"a\n%%", &[b"a\n", b""]),
-        (b"a\n%%\n", &[b"a\n", b""]),
-        (b"a\n%%\r", &[b"a\n", b""]),
-        (b"%%", &[b"", b""]),
-        (b"%%\n%%\n", &[b"", b"", b""]),
-        // No line but `%%` separates.
-        (
-            b"a\n%%%\n%% \n %%\n%\n%%\r\r\n%%b\n",
-            &[b"a\n%%%\n%% \n %%\n%\n%%\r\r\n%%b\n"],
-        ),
-        (b"a %%\nb", &[b"a %%\nb"]),
-        (b"a\r%%\rb", &[b"a\r%%\rb"]),
-        // It does within a comment and within a string.
-        (b"/*\n%%\n*/", &[b"/*\n", b"*/"]),
-        (b"x = \"\n%%\n\";\n\0\xff", &[b"x = \"\n", b"\";\n\0\xff"]),
-    ];
-    for (file, texts) in &rows {
+    for (file, texts) in &TEXTS {
         expect_texts(&rt, rt.alloc(), file, texts);
     }
     Ok(())

@@ -15,36 +15,38 @@ fn words_in(alloc: Global, line: &str) -> Result<Vec<String>, AllocError> {
     Ok(words)
 }
 
+// Lines, and why they are refused.
+static REFUSED: [(&str, Cause); 18] = [
+    ("run p.dsp in.wav", Cause::Form),
+    ("play p.dsp in.wav o.wav", Cause::Form),
+    ("run p.dsp in.wav o.wav more", Cause::Form),
+    ("run p.dsp in.wav o.wav --block", Cause::Form),
+    ("run p.dsp in.wav o.wav --block=1 --block=1", Cause::Form),
+    ("run p.dsp in.wav o.wav -b 1", Cause::Form),
+    ("check p.dsp --block=1", Cause::Form),
+    ("run p.dsp in.wav o.wav --block x", Cause::Number),
+    (
+        "run p.dsp in.wav o.wav --vector=9999 --block=",
+        Cause::Number,
+    ),
+    ("make 0 x 1", Cause::Number),
+    ("run p.dsp in.wav o.wav --block 0", Cause::Range),
+    ("run p.dsp in.wav o.wav --workers=17", Cause::Range),
+    ("make 65 1 1", Cause::Range),
+    (
+        "run p.dsp in.wav o.wav --vector 1 --block 4096",
+        Cause::Vectors,
+    ),
+    ("run p.dsp in.wav o.wav --frames 3", Cause::Together),
+    ("run p.dsp in.wav in.wav", Cause::Same),
+    ("run p.dsp - o.wav --controls=o.wav", Cause::Same),
+    ("run p.dsp - - --frames 1", Cause::Same),
+];
+
 #[test]
 fn refused(rt: HostRuntime) -> Result<(), Fail> {
-    let rows: [(&str, Cause); 18] = [
-        ("run p.dsp in.wav", Cause::Form),
-        ("play p.dsp in.wav o.wav", Cause::Form),
-        ("run p.dsp in.wav o.wav more", Cause::Form),
-        ("run p.dsp in.wav o.wav --block", Cause::Form),
-        ("run p.dsp in.wav o.wav --block=1 --block=1", Cause::Form),
-        ("run p.dsp in.wav o.wav -b 1", Cause::Form),
-        ("check p.dsp --block=1", Cause::Form),
-        ("run p.dsp in.wav o.wav --block x", Cause::Number),
-        (
-            "run p.dsp in.wav o.wav --vector=9999 --block=",
-            Cause::Number,
-        ),
-        ("make 0 x 1", Cause::Number),
-        ("run p.dsp in.wav o.wav --block 0", Cause::Range),
-        ("run p.dsp in.wav o.wav --workers=17", Cause::Range),
-        ("make 65 1 1", Cause::Range),
-        (
-            "run p.dsp in.wav o.wav --vector 1 --block 4096",
-            Cause::Vectors,
-        ),
-        ("run p.dsp in.wav o.wav --frames 3", Cause::Together),
-        ("run p.dsp in.wav in.wav", Cause::Same),
-        ("run p.dsp - o.wav --controls=o.wav", Cause::Same),
-        ("run p.dsp - - --frames 1", Cause::Same),
-    ];
     let alloc = rt.alloc();
-    for (line, cause) in &rows {
+    for (line, cause) in &REFUSED {
         match job_in(&words_in(alloc, line)?) {
             Ok(_job) => panic!(rt; "not refused"),
             Err(found) => assert_eq!(rt; found, *cause),
@@ -72,18 +74,20 @@ fn expect_run(rt: &impl Abort, words: &[String], files: &[&str; 3], sizes: &[u32
     }
 }
 
+// Lines, each with what it asks for.
+static ASKED: [Asked; 6] = [
+    ("run p in o", ["p", "in", "o"], [512, 32, 1]),
+    ("au p in o --block=31", ["p", "in", "o"], [31, 31, 1]),
+    ("rack --block 4096 p in o", ["p", "in", "o"], [4096, 64, 1]),
+    ("run p --workers=16 - o", ["p", "-", "o"], [512, 32, 16]),
+    ("run -- -p in --o", ["-p", "in", "--o"], [512, 32, 1]),
+    ("run p in --vector 8 -- o", ["p", "in", "o"], [512, 8, 1]),
+];
+
 #[test]
 fn asked_for(rt: HostRuntime) -> Result<(), Fail> {
-    let rows: [Asked; 6] = [
-        ("run p in o", ["p", "in", "o"], [512, 32, 1]),
-        ("au p in o --block=31", ["p", "in", "o"], [31, 31, 1]),
-        ("rack --block 4096 p in o", ["p", "in", "o"], [4096, 64, 1]),
-        ("run p --workers=16 - o", ["p", "-", "o"], [512, 32, 16]),
-        ("run -- -p in --o", ["-p", "in", "--o"], [512, 32, 1]),
-        ("run p in --vector 8 -- o", ["p", "in", "o"], [512, 8, 1]),
-    ];
     let alloc = rt.alloc();
-    for (line, files, sizes) in &rows {
+    for (line, files, sizes) in &ASKED {
         expect_run(&rt, &words_in(alloc, line)?, files, sizes);
     }
     Ok(())
