@@ -130,6 +130,56 @@ static ROWS: [Row; 21] = [
 // The numbers of the controls.
 const CONTROLS: [i32; 2] = [3, -2];
 
+// Takes a frame more, and compares what it answers.
+fn step(
+    rt: &impl Abort,
+    alloc: Global,
+    name: &str,
+    stepper: &mut Stepper,
+    frame: &[i32],
+    want: &[i32],
+) -> Result<(), AllocError>
+    requires frame { length frame.now ≡ stepper.old.ins }
+    requires want { length want.now ≡ length stepper.old.outs }
+    requires controls { stepper.old.controls ≤ 2 }
+    ensures widths { (stepper.new.ins ≡ stepper.old.ins) × (length stepper.new.outs ≡ length stepper.old.outs)
+        × (stepper.new.controls ≡ stepper.old.controls) }
+{
+    let mut out = vec![in alloc; 0; want.len()]?;
+    stepper.step(&CONTROLS, frame, &mut out)?;
+    assert!(rt; out.as_slice() == want, "{name}");
+    Ok(())
+}
+
+// Takes frames, and compares what it answers.
+fn step_all(
+    rt: &impl Abort,
+    alloc: Global,
+    name: &str,
+    stepper: &mut Stepper,
+    arity: Arity,
+    frames: &[i32],
+    want: &[i32],
+) -> Result<(), AllocError>
+    requires ins { stepper.old.ins ≡ arity.inputs }
+    requires outs { length stepper.old.outs ≡ arity.outputs }
+    requires controls { stepper.old.controls ≤ 2 }
+{
+    let ins = arity.inputs as usize;
+    let outs = arity.outputs as usize;
+    let mut frames = frames;
+    let mut want = want;
+    'frames: while !want.is_empty() {
+        assert!(rt; frames.len() >= ins && want.len() >= outs && outs > 0);
+        let (frame, frames_left) = frames.split_at(ins);
+        let (expected, want_left) = want.split_at(outs);
+        step(rt, alloc, name, stepper, frame, expected)?;
+        frames = frames_left;
+        want = want_left;
+    }
+    Ok(())
+}
+
 // Runs a diagram on frames, and compares what it answers.
 pub fn play(
     rt: &impl Abort,
@@ -146,21 +196,8 @@ pub fn play(
     requires controls { control_bound (tree_of diagrams.now root) ≤ 2 }
 {
     let arity = diagrams.arity(root);
-    let ins = arity.inputs as usize;
-    let outs = arity.outputs as usize;
     let mut stepper = Stepper::new(alloc, diagrams, root)?;
-    let mut frames = frames;
-    let mut want = want;
-    'frames: while !want.is_empty() {
-        assert!(rt; frames.len() >= ins && want.len() >= outs && outs > 0);
-        let (frame, frames_left) = frames.split_at(ins);
-        let (expected, want_left) = want.split_at(outs);
-        let mut out = vec![in alloc; 0; outs]?;
-        stepper.step(&CONTROLS, frame, &mut out)?;
-        assert_eq!(rt; out.as_slice(), expected, "{name}");
-        frames = frames_left;
-        want = want_left;
-    }
+    step_all(rt, alloc, name, &mut stepper, arity, frames, want)?;
     Ok(())
 }
 

@@ -87,40 +87,61 @@ fn delays_of(alloc: Global, expression: &str) -> Result<Result<Delays, DelayRefu
 }
 
 // Compares delays with those that are wanted.
-pub fn assert_delays(rt: &impl Abort, delays: &Delays, want: &[u32], name: &str) {
-    assert_eq!(rt; delays.len(), want.len() as u64, "{name}");
-    assert_eq!(rt; delays.is_empty(), want.is_empty(), "{name}");
+fn assert_delays(rt: &impl Abort, delays: &Delays, want: &[u32], name: &str) {
+    assert!(rt; delays.len() == want.len() as u64, "{name}");
+    assert!(rt; delays.is_empty() == want.is_empty(), "{name}");
     let mut sum = 0;
     for i in 0..want.len() {
         assert!(rt; (i as u64) < delays.len());
-        assert_eq!(rt; delays.get(i as u64), want[i], "{name}");
+        assert!(rt; delays.get(i as u64) == want[i], "{name}");
         assert!(rt; sum < 1_000_000_000);
         sum += u64::from(want[i]);
     }
-    assert_eq!(rt; delays.sum(), sum, "{name}");
+    assert!(rt; delays.sum() == sum, "{name}");
+}
+
+// Compares delays or their refusal with what is wanted.
+pub fn assert_found(
+    rt: &impl Abort,
+    found: &Result<Delays, DelayRefusal>,
+    want: Result<&[u32], DelayRefusal>,
+    name: &str,
+) {
+    match (found, want) {
+        (Ok(delays), Ok(want)) => assert_delays(rt, delays, want, name),
+        (Err(refusal), Err(want)) => assert!(rt; *refusal == want, "{name}"),
+        (Ok(_), Err(_)) => panic!(rt; "{name} is not refused"),
+        (Err(_), Ok(_)) => panic!(rt; "{name} is refused"),
+    }
+}
+
+// Each expression has its delays, or its refusal.
+fn assert_rows(rt: &impl Abort, alloc: Global, rows: &[Row]) -> Result<(), Fail> {
+    for row in rows {
+        let found = delays_of(alloc, row.expression)?;
+        assert_found(rt, &found, row.want, row.expression);
+    }
+    Ok(())
 }
 
 #[test]
 fn delays_are_listed_or_refused(rt: HostRuntime) -> Result<(), Fail> {
-    for row in &ROWS {
-        let name = row.expression;
-        match (delays_of(rt.alloc(), name)?, row.want) {
-            (Ok(delays), Ok(want)) => assert_delays(&rt, &delays, want, name),
-            (Ok(_), Err(want)) => panic!(rt; "{name} is not refused: {want:?}"),
-            (Err(refusal), want) => assert_eq!(rt; Err(refusal), want, "{name}"),
-        }
-    }
-    Ok(())
+    assert_rows(&rt, rt.alloc(), &ROWS)
 }
 
-// Sixteen delays of the greatest length are within the budget, and seventeen are not.
+// Sixteen delays of the greatest length, 16777200 in all, are within the budget, and seventeen are not.
+static BUDGETS: [Row; 2] = [
+    Row {
+        expression: "par(i, 16, _ @ 1048575)",
+        want: Ok(&[1048575; 16]),
+    },
+    Row {
+        expression: "par(i, 17, _ @ 1048575)",
+        want: Err(DelayRefusal::DelayBudget { sum: 17825775 }),
+    },
+];
+
 #[test]
 fn budgets(rt: HostRuntime) -> Result<(), Fail> {
-    let Ok(delays) = delays_of(rt.alloc(), "par(i, 16, _ @ 1048575)")? else {
-        return Err("refused".into());
-    };
-    assert_eq!(rt; (delays.len(), delays.sum()), (16, 16777200));
-    let refused = delays_of(rt.alloc(), "par(i, 17, _ @ 1048575)")?.err();
-    assert_eq!(rt; refused, Some(DelayRefusal::DelayBudget { sum: 17825775 }));
-    Ok(())
+    assert_rows(&rt, rt.alloc(), &BUDGETS)
 }

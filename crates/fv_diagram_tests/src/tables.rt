@@ -1,7 +1,7 @@
 // Waveforms and tables that are put by hand: what they answer, how wide they are, and their spans.
 
 use crate::runs::play;
-use crate::spans::assert_delays;
+use crate::spans::assert_found;
 use fv_arity::{ArityKind, ArityRefusal, arity_of};
 use fv_diagram::{Arity, DiagramId, Diagrams, Node, Prim};
 use fv_interval::{DelayRefusal, spans};
@@ -108,21 +108,31 @@ static ROWS: [Row; 8] = [
     },
 ];
 
+// Keeps a list.
+fn is_kept(alloc: Global, build: &mut Build, list: &[i32]) -> bool {
+    matches!(build.table(alloc, list), Ok(Some(_)))
+}
+
+// Puts an item.
+fn is_put(build: &mut Build, item: Item) -> bool {
+    build.put(item) == Ok(None)
+}
+
 // The diagrams of items over lists.
-fn built(rt: &impl Abort, alloc: Global, drawn: &Drawn) -> Result<Build, Fail> {
+fn built(rt: &impl Abort, alloc: Global, drawn: &Drawn) -> Build {
     let mut build = Build::new(alloc);
     for list in drawn.lists {
-        assert!(rt; build.table(alloc, list)?.is_some(), "{}", drawn.name);
+        assert!(rt; is_kept(alloc, &mut build, list), "{}", drawn.name);
     }
     for item in drawn.items {
-        assert_eq!(rt; build.put(*item)?, None, "{}", drawn.name);
+        assert!(rt; is_put(&mut build, *item), "{}", drawn.name);
     }
-    Ok(build)
+    build
 }
 
 // Compares what the last item of a row answers.
 fn play_row(rt: &impl Abort, alloc: Global, row: &Row) -> Result<(), Fail> {
-    let build = built(rt, alloc, &row.drawn)?;
+    let build = built(rt, alloc, &row.drawn);
     let count = build.count();
     assert!(rt; count > 0);
     let root = DiagramId::new(count - 1);
@@ -236,56 +246,91 @@ static DELAYS: [DelayRow; 5] = [
 ];
 
 // Compares the delay of the last item of a row.
-fn compare_delay(rt: &impl Abort, alloc: Global, row: &DelayRow) -> Result<(), Fail> {
+fn compare_delay(rt: &impl Abort, alloc: Global, row: &DelayRow) {
     let name = row.drawn.name;
-    let build = built(rt, alloc, &row.drawn)?;
+    let build = built(rt, alloc, &row.drawn);
     let count = build.count();
     assert!(rt; count > 0);
     let root = DiagramId::new(count - 1);
     let controls = [Span::full(), Span::full()];
-    match (spans(alloc, build.diagrams(), root, &controls), row.want) {
-        (Ok(delays), Ok(want)) => assert_delays(rt, &delays, &[want], name),
-        (Ok(_), Err(want)) => panic!(rt; "{name} is not refused: {want:?}"),
-        (Err(refusal), want) => assert_eq!(rt; Err(refusal), want, "{name}"),
+    let found = spans(alloc, build.diagrams(), root, &controls);
+    match row.want {
+        Ok(number) => assert_found(rt, &found, Ok(&[number]), name),
+        Err(refusal) => assert_found(rt, &found, Err(refusal), name),
     }
-    Ok(())
 }
 
 #[test]
-fn tables_have_spans(rt: HostRuntime) -> Result<(), Fail> {
+fn tables_have_spans(rt: HostRuntime) {
     for row in &DELAYS {
-        compare_delay(&rt, rt.alloc(), row)?;
+        compare_delay(&rt, rt.alloc(), row);
     }
-    Ok(())
 }
+
+// An item, and its width.
+struct Width {
+    item: Item,
+    arity: Arity,
+}
+
+static WIDTHS: [Width; 3] = [
+    Width {
+        item: Item::Wave(0),
+        arity: Arity {
+            inputs: 0,
+            outputs: 2,
+        },
+    },
+    Width {
+        item: Item::Table(0, false),
+        arity: Arity {
+            inputs: 1,
+            outputs: 1,
+        },
+    },
+    Width {
+        item: Item::Table(0, true),
+        arity: Arity {
+            inputs: 3,
+            outputs: 1,
+        },
+    },
+];
 
 #[test]
 fn tables_have_widths(rt: HostRuntime) -> Result<(), Fail> {
     let mut build = Build::new(rt.alloc());
-    assert_eq!(rt; build.table(rt.alloc(), &[])?, None);
-    assert_eq!(rt; build.table(rt.alloc(), &[1, 2])?, Some(0));
-    for (item, inputs, outputs) in [
-        (Item::Wave(0), 0, 2),
-        (Item::Table(0, false), 1, 1),
-        (Item::Table(0, true), 3, 1),
-    ] {
-        assert_eq!(rt; build.arity(item), Ok(Arity { inputs, outputs }));
-        build.put(item)?;
-    }
-    assert_eq!(rt;
-        build.arity(Item::Seq(0, 1)),
-        Err(Unput::Arity(ArityRefusal::Arity {
-            kind: ArityKind::Seq,
-            left: 2,
-            right: 1
-        }))
-    );
-    let none = Diagrams::new(rt.alloc());
-    for (prim, inputs) in [(Prim::ReadTable, 3), (Prim::WriteTable, 5)] {
-        assert_eq!(rt;
-            arity_of(&none, Node::Prim(prim)),
-            Ok(Arity { inputs, outputs: 1 })
+    assert!(rt; build.table(rt.alloc(), &[])?.is_none());
+    assert!(rt; build.table(rt.alloc(), &[1, 2])? == Some(0));
+    for width in &WIDTHS {
+        assert!(rt;
+            build.arity(width.item) == Ok(width.arity),
+            "{:?}",
+            width.arity
         );
+        build.put(width.item)?;
+    }
+    let refusal = ArityRefusal::Arity {
+        kind: ArityKind::Seq,
+        left: 2,
+        right: 1,
+    };
+    assert!(rt; build.arity(Item::Seq(0, 1)) == Err(Unput::Arity(refusal)));
+    Ok(())
+}
+
+// A primitive, and how many inputs it has.
+static PRIMITIVES: [(Prim, u32); 2] = [(Prim::ReadTable, 3), (Prim::WriteTable, 5)];
+
+#[test]
+fn table_primitives_have_widths(rt: HostRuntime) -> Result<(), Fail> {
+    let none = Diagrams::new(rt.alloc());
+    for (prim, inputs) in &PRIMITIVES {
+        let arity = Arity {
+            inputs: *inputs,
+            outputs: 1,
+        };
+        assert!(rt; arity_of(&none, Node::Prim(*prim)) == Ok(arity), "{prim:?}");
     }
     Ok(())
 }
@@ -295,10 +340,8 @@ fn lists_are_kept(rt: HostRuntime) -> Result<(), Fail> {
     let mut diagrams = Diagrams::new(rt.alloc());
     let first = diagrams.table(rt.alloc(), &[5, -6])?;
     let second = diagrams.table(rt.alloc(), &[7])?;
-    assert_eq!(rt;
-        (diagrams.values(first), diagrams.values(second)),
-        (&[5, -6][..], &[7][..])
-    );
+    assert!(rt; diagrams.values(first) == [5, -6].as_slice(), "the first");
+    assert!(rt; diagrams.values(second) == [7].as_slice(), "the second");
     let wave = diagrams.put(
         Node::Wave(second),
         Arity {
@@ -306,6 +349,7 @@ fn lists_are_kept(rt: HostRuntime) -> Result<(), Fail> {
             outputs: 2,
         },
     )?;
+    assert!(rt; !diagrams.has_table_primitive(wave), "a waveform");
     let primitive = diagrams.put(
         Node::Prim(Prim::ReadTable),
         Arity {
@@ -313,12 +357,6 @@ fn lists_are_kept(rt: HostRuntime) -> Result<(), Fail> {
             outputs: 1,
         },
     )?;
-    assert_eq!(rt;
-        (
-            diagrams.has_table_primitive(wave),
-            diagrams.has_table_primitive(primitive)
-        ),
-        (false, true)
-    );
+    assert!(rt; diagrams.has_table_primitive(primitive), "a primitive");
     Ok(())
 }

@@ -3,7 +3,7 @@
 ghost use Rattle.std.specs.Prelude.{◌<◌};
 ghost use Rattle.fv_diagram.specs.Arena.{count_of};
 
-use fv_diagram::{DiagramId, Diagrams, Node};
+use fv_diagram::{ControlInfo, DiagramId, Diagrams, Node};
 use fv_eval::{EvalRefusal, Program, evaluate};
 use fv_lex::tokens;
 use fv_parse::parse;
@@ -17,43 +17,21 @@ fn add_bytes(line: &mut String, bytes: &[u8]) -> Result<(), AllocError> {
 }
 
 // A diagram, each composition in parentheses; a bind has its slot and its body in brackets.
-fn add_diagram(
-    alloc: Global,
-    line: &mut String,
-    diagrams: &Diagrams,
-    id: DiagramId,
-) -> Result<(), AllocError>
+fn add_diagram(line: &mut String, diagrams: &Diagrams, id: DiagramId) -> Result<(), AllocError>
     requires { id < count_of diagrams.now }
 {
     let (sign, left, right) = match diagrams.node(id) {
-        Node::Prim(primitive) => {
-            let shown = format!(in alloc; "{primitive:?}")?;
-            return line.push_str(shown.as_str());
-        }
-        Node::Number(n) => {
-            let shown = format!(in alloc; "{n}")?;
-            return line.push_str(shown.as_str());
-        }
-        Node::Control(k) => {
-            let shown = format!(in alloc; "control {k}")?;
-            return line.push_str(shown.as_str());
-        }
-        Node::Slot(s) => {
-            let shown = format!(in alloc; "slot {s}")?;
-            return line.push_str(shown.as_str());
-        }
-        Node::Wave(table) => {
-            let shown = format!(in alloc; "waveform {:?}", diagrams.values(table))?;
-            return line.push_str(shown.as_str());
-        }
+        Node::Prim(primitive) => return write!(line, "{primitive:?}"),
+        Node::Number(n) => return write!(line, "{n}"),
+        Node::Control(k) => return write!(line, "control {k}"),
+        Node::Slot(s) => return write!(line, "slot {s}"),
+        Node::Wave(table) => return write!(line, "waveform {:?}", diagrams.values(table)),
         Node::Table { table, writes } => {
-            let shown = format!(in alloc; "table {:?} {writes}", diagrams.values(table))?;
-            return line.push_str(shown.as_str());
+            return write!(line, "table {:?} {writes}", diagrams.values(table));
         }
         Node::Bind { slot, body } => {
-            let shown = format!(in alloc; "[{slot} ")?;
-            line.push_str(shown.as_str())?;
-            add_diagram(alloc, line, diagrams, body)?;
+            write!(line, "[{slot} ")?;
+            add_diagram(line, diagrams, body)?;
             return line.push_str("]");
         }
         Node::Par { left, right } => (",", left, right),
@@ -63,47 +41,45 @@ fn add_diagram(
         Node::Rec { left, right } => ("~", left, right),
     };
     line.push_str("(")?;
-    add_diagram(alloc, line, diagrams, left)?;
+    add_diagram(line, diagrams, left)?;
     line.push_str(sign)?;
-    add_diagram(alloc, line, diagrams, right)?;
+    add_diagram(line, diagrams, right)?;
     line.push_str(")")
 }
 
-/// The line of a refusal.
-pub fn refused(alloc: Global, refusal: EvalRefusal) -> Result<String, AllocError> {
-    let mut line = String::new(alloc);
+// A word, and a name or a label behind it.
+fn named(alloc: Global, word: &str, name: &[u8]) -> Result<String, AllocError> {
+    let mut line = format!(in alloc; "{word} ")?;
+    add_bytes(&mut line, name)?;
+    Ok(line)
+}
+
+// The line of a refusal.
+fn refused(alloc: Global, refusal: EvalRefusal) -> Result<String, AllocError> {
     match refusal {
-        EvalRefusal::UnknownName { name } => {
-            line.push_str("UnknownName ")?;
-            add_bytes(&mut line, name.bytes())?;
-            Ok(line)
-        }
-        EvalRefusal::ControlClash { label } => {
-            line.push_str("ControlClash ")?;
-            add_bytes(&mut line, label.bytes())?;
-            Ok(line)
-        }
-        EvalRefusal::ControlBounds { label } => {
-            line.push_str("ControlBounds ")?;
-            add_bytes(&mut line, label.bytes())?;
-            Ok(line)
-        }
+        EvalRefusal::UnknownName { name } => named(alloc, "UnknownName", name.bytes()),
+        EvalRefusal::ControlClash { label } => named(alloc, "ControlClash", label.bytes()),
+        EvalRefusal::ControlBounds { label } => named(alloc, "ControlBounds", label.bytes()),
         other => format!(in alloc; "{other:?}"),
     }
+}
+
+fn add_control(line: &mut String, control: &ControlInfo) -> Result<(), AllocError> {
+    write!(
+        line,
+        "; {:?} {} {} {} ",
+        control.kind, control.init, control.min, control.max
+    )?;
+    add_bytes(line, control.label.bytes())
 }
 
 // The arity, the diagram and the controls of a program.
 fn described(alloc: Global, program: &Program) -> Result<String, AllocError> {
     let arity = program.diagrams.arity(program.root);
     let mut line = format!(in alloc; "{} to {}: ", arity.inputs, arity.outputs)?;
-    add_diagram(alloc, &mut line, &program.diagrams, program.root)?;
+    add_diagram(&mut line, &program.diagrams, program.root)?;
     for control in program.controls.as_slice() {
-        let shown = format!(in alloc;
-            "; {:?} {} {} {} ",
-            control.kind, control.init, control.min, control.max
-        )?;
-        line.push_str(shown.as_str())?;
-        add_bytes(&mut line, control.label.bytes())?;
+        add_control(&mut line, control)?;
     }
     Ok(line)
 }

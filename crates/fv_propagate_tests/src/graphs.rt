@@ -1,6 +1,7 @@
 // What graphs of signals give, beside what their diagrams answer.
 
 use fv_diagram_play::play;
+use fv_eval::Program;
 use fv_interval::{spans, spans_of};
 use fv_num::Op;
 use fv_propagate::propagate;
@@ -146,19 +147,25 @@ fn given(
     test_values::given(alloc, graph, &sound, frames)
 }
 
-// The graph of an expression, which gives what its diagram answers.
-fn agrees(rt: &impl Abort, alloc: Global, expression: &str) -> Result<Graph, Fail> {
-    let program = program_with_controls(alloc, expression)?;
-    let controls = program.controls.as_slice();
-    assert!(rt; controls.len() <= CONTROLS.len());
-    let bounds = spans_of(alloc, controls)?;
-    let delays = match spans(alloc, &program.diagrams, program.root, &bounds) {
-        Ok(delays) => delays,
-        Err(_) => return Err("refused".into()),
+// The graph of a program.
+fn graph_of(alloc: Global, program: &Program) -> Result<Graph, Fail> {
+    let bounds = spans_of(alloc, program.controls.as_slice())?;
+    let Ok(delays) = spans(alloc, &program.diagrams, program.root, &bounds) else {
+        return Err("refused".into());
     };
-    let graph = propagate(alloc, &program.diagrams, program.root, &delays)?;
+    Ok(propagate(alloc, &program.diagrams, program.root, &delays)?)
+}
+
+// The graph gives what the program's diagram answers.
+fn assert_agrees(
+    rt: &impl Abort,
+    alloc: Global,
+    program: &Program,
+    graph: &Graph,
+    expression: &str,
+) -> Result<(), AllocError> {
     let width = program.diagrams.arity(program.root).inputs as usize;
-    assert!(rt; width <= 6);
+    assert!(rt; program.controls.as_slice().len() <= CONTROLS.len() && width <= 6);
     let samples = &SAMPLES[..FRAMES * width];
     let want = play(
         alloc,
@@ -168,8 +175,16 @@ fn agrees(rt: &impl Abort, alloc: Global, expression: &str) -> Result<Graph, Fai
         samples,
         FRAMES,
     )?;
-    let answer = given(alloc, &graph, samples, width, FRAMES)?;
+    let answer = given(alloc, graph, samples, width, FRAMES)?;
     assert!(rt; answer.as_slice() == want.as_slice(), "{expression}");
+    Ok(())
+}
+
+// The graph of an expression, which gives what its diagram answers.
+fn agrees(rt: &impl Abort, alloc: Global, expression: &str) -> Result<Graph, Fail> {
+    let program = program_with_controls(alloc, expression)?;
+    let graph = graph_of(alloc, &program)?;
+    assert_agrees(rt, alloc, &program, &graph, expression)?;
     Ok(graph)
 }
 

@@ -4,7 +4,7 @@ ghost use Rattle.fv_rules_tests.specs.Built.{AreComposed};
 
 use crate::built::{Item, built};
 use fv_arity::ArityKind;
-use fv_diagram::{Diagrams, Node, Prim};
+use fv_diagram::{DiagramId, Diagrams, Node, Prim};
 use fv_diagram_number::number_of;
 use fv_eval_scopes::Numbers;
 use fv_num::Op;
@@ -12,19 +12,9 @@ use fv_rules::{EvalRefusal, literal, negative_literal, put};
 use std::alloc::Global;
 use std::test::Fail;
 
-#[test]
-fn a_literal_has_its_number(rt: HostRuntime) -> Result<(), Fail> {
-    let alloc = rt.alloc();
-    let mut diagrams = Diagrams::new(alloc);
-    match put(&mut diagrams, &Node::Number(7)) {
-        Ok(id) => assert_eq!(rt; number_of(alloc, &diagrams, id)?, Some(7)),
-        Err(_refusal) => panic!(rt; "refused"),
-    }
-    Ok(())
-}
-
 // Diagrams in postfix order, each with its number.
-const NUMBERS: [(&str, &[Item], Option<i32>); 11] = [
+static NUMBERS: [(&str, &[Item], Option<i32>); 13] = [
+    ("a literal", &[Item::Number(7)], Some(7)),
     (
         "a difference",
         &[
@@ -132,19 +122,24 @@ const NUMBERS: [(&str, &[Item], Option<i32>); 11] = [
         None,
     ),
     ("an input", &[Item::Prim(Prim::Int)], None),
+    ("a primitive with inputs", &[Item::Op(Op::Add)], None),
 ];
 
+// The number of a diagram.
+fn number(alloc: Global, items: &[Item]) -> Result<Option<i32>, EvalRefusal> {
+    let mut diagrams = Diagrams::new(alloc);
+    let id = built(alloc, &mut diagrams, items)?;
+    Ok(number_of(alloc, &diagrams, id)?)
+}
+
 #[test]
-fn numbers_of_diagrams(rt: HostRuntime) -> Result<(), Fail> {
-    let alloc = rt.alloc();
-    for (name, items, expected) in NUMBERS {
-        let mut diagrams = Diagrams::new(alloc);
-        match built(alloc, &mut diagrams, items) {
-            Ok(id) => assert_eq!(rt; number_of(alloc, &diagrams, id)?, expected, "{name}"),
-            Err(refusal) => panic!(rt; "{name}: {refusal:?}"),
+fn numbers_of_diagrams(rt: HostRuntime) {
+    for (name, items, expected) in &NUMBERS {
+        match number(rt.alloc(), items) {
+            Ok(found) => assert!(rt; found == *expected, "{name}"),
+            Err(_) => panic!(rt; "{name} is refused"),
         }
     }
-    Ok(())
 }
 
 // The numbers of a diagram, asked for twice and then put, with the node that was put.
@@ -163,61 +158,109 @@ fn asked(
     Ok((first, second, diagrams.node(settled)))
 }
 
-#[test]
-fn numbers_are_remembered(rt: HostRuntime) -> Result<(), Fail> {
-    let alloc = rt.alloc();
-    let square = [Item::Number(5), Item::Op(Op::Mul), Item::Split];
-    let wire = [Item::Prim(Prim::Wire)];
-    let mut diagrams = Diagrams::new(alloc);
-    match asked(alloc, &mut diagrams, &square) {
-        Ok(found) => assert_eq!(rt; found, (Some(25), Some(25), Node::Number(25))),
-        Err(refusal) => panic!(rt; "{refusal:?}"),
-    }
-    let mut diagrams = Diagrams::new(alloc);
-    match asked(alloc, &mut diagrams, &wire) {
-        Ok(found) => assert_eq!(rt; found, (None, None, Node::Prim(Prim::Wire))),
-        Err(refusal) => panic!(rt; "{refusal:?}"),
-    }
-    Ok(())
+// A diagram in postfix order, its number, which is asked for twice, and what it is put as.
+#[derive(Clone, Copy)]
+struct Settled {
+    name: &'static str,
+    items: &'static [Item],
+    number: Option<i32>,
+    settled: Node,
 }
+
+const SETTLED: [Settled; 2] = [
+    Settled {
+        name: "a square",
+        items: &[Item::Number(5), Item::Op(Op::Mul), Item::Split],
+        number: Some(25),
+        settled: Node::Number(25),
+    },
+    Settled {
+        name: "a wire",
+        items: &[Item::Prim(Prim::Wire)],
+        number: None,
+        settled: Node::Prim(Prim::Wire),
+    },
+];
+
+// Whether a row's diagram has its number, the second time too, and is put as the row says.
+fn is_settled(alloc: Global, row: &Settled) -> bool {
+    let mut diagrams = Diagrams::new(alloc);
+    match asked(alloc, &mut diagrams, row.items) {
+        Ok((first, second, node)) => {
+            first == row.number && second == row.number && node == row.settled
+        }
+        Err(_) => false,
+    }
+}
+
+#[test]
+fn numbers_are_remembered(rt: HostRuntime) {
+    for row in &SETTLED {
+        assert!(rt; is_settled(rt.alloc(), row), "{}", row.name);
+    }
+}
+
+// What is written, and the number that it is.
+struct Written {
+    name: &'static str,
+    written: u32,
+    number: i32,
+}
+
+static PLAIN: [Written; 2] = [
+    Written {
+        name: "the greatest number",
+        written: 2147483647,
+        number: 2147483647,
+    },
+    Written {
+        name: "one more",
+        written: 2147483648,
+        number: -2147483648,
+    },
+];
+
+static NEGATIVE: [Written; 2] = [
+    Written {
+        name: "a small number",
+        written: 7,
+        number: -7,
+    },
+    Written {
+        name: "the least number",
+        written: 2147483648,
+        number: -2147483648,
+    },
+];
 
 #[test]
 fn literals_wrap(rt: HostRuntime) {
-    assert_eq!(rt; literal(2147483647), 2147483647);
-    assert_eq!(rt; literal(2147483648), -2147483648);
-    assert_eq!(rt; negative_literal(7), -7);
-    assert_eq!(rt; negative_literal(2147483648), -2147483648);
+    for row in &PLAIN {
+        assert!(rt; literal(row.written) == row.number, "{}", row.name);
+    }
+    for row in &NEGATIVE {
+        assert!(rt; negative_literal(row.written) == row.number, "{}", row.name);
+    }
 }
 
-#[test]
-fn a_primitive_with_inputs_has_none(rt: HostRuntime) -> Result<(), Fail> {
-    let alloc = rt.alloc();
-    let mut diagrams = Diagrams::new(alloc);
-    match put(&mut diagrams, &Node::Prim(Prim::Point(Op::Add))) {
-        Ok(id) => assert_eq!(rt; number_of(alloc, &diagrams, id)?, None),
-        Err(_refusal) => panic!(rt; "refused"),
-    }
-    Ok(())
+// The refusal of a sum behind a sum.
+fn refused(diagrams: &mut Diagrams) -> Result<DiagramId, EvalRefusal> {
+    let id = put(diagrams, &Node::Prim(Prim::Point(Op::Add)))?;
+    let twice = Node::Seq {
+        left: id,
+        right: id,
+    };
+    put(diagrams, &twice)
 }
 
 #[test]
 fn a_composition_that_does_not_fit(rt: HostRuntime) -> Result<(), Fail> {
     let mut diagrams = Diagrams::new(rt.alloc());
-    match put(&mut diagrams, &Node::Prim(Prim::Point(Op::Add))) {
-        Ok(id) => {
-            let twice = Node::Seq {
-                left: id,
-                right: id,
-            };
-            match put(&mut diagrams, &twice) {
-                Err(EvalRefusal::Arity { kind, left, right }) => {
-                    assert_eq!(rt; kind, ArityKind::Seq);
-                    assert_eq!(rt; (left, right), (1, 2));
-                }
-                _ => panic!(rt; "not refused for its arity"),
-            }
+    match refused(&mut diagrams) {
+        Err(EvalRefusal::Arity { kind, left, right }) => {
+            assert!(rt; kind == ArityKind::Seq && left == 1 && right == 2);
         }
-        Err(_refusal) => panic!(rt; "refused"),
+        _ => panic!(rt; "not refused for its arity"),
     }
     Ok(())
 }

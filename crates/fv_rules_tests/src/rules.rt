@@ -7,10 +7,11 @@ use fv_diagram::{Diagrams, Node};
 use fv_eval_choosing::{Definitions, Shortcuts};
 use fv_eval_patterns::Trials;
 use fv_eval_scopes::{Binding, Meaning, Numbers, Ruled, Scopes, Value};
-use fv_lex::{Tokens, tokens};
-use fv_parse::{TreeId, parse};
+use fv_lex::tokens;
+use fv_parse::{Tree, TreeId, parse};
 use fv_rules::{EvalRefusal, put};
 use std::alloc::{AllocError, Global};
+use std::process::Abort;
 use std::test::Fail;
 
 // The right side of the first rule of a `case` that matches an integer, and how many names it binds.
@@ -44,37 +45,66 @@ fn chosen(
 }
 
 // Each node whose rules take arguments, how many, and what they choose for an integer.
-fn choices(alloc: Global, found: &Tokens, n: i32) -> Result<String, AllocError> {
-    let Ok(tree) = parse(alloc, found) else {
-        return String::from_str(alloc, "no tree");
-    };
-    let definitions = Definitions::new(alloc, &tree)?;
+fn choices(alloc: Global, tree: &Tree, n: i32) -> Result<String, AllocError> {
+    let definitions = Definitions::new(alloc, tree)?;
     let mut line = String::new(alloc);
     for i in 0..tree.len() {
         let width = definitions.width(Ruled::Case(TreeId::new(i)));
         if width > 0 {
             let choice = chosen(alloc, &definitions, i, n)?;
-            let shown = format!(in alloc; "{i} takes {width}: {choice:?}; ")?;
-            line.push_str(shown.as_str())?;
+            write!(&mut line, "{i} takes {width}: {choice:?}; ")?;
         }
     }
     Ok(line)
 }
 
+// The same of the nodes of a text.
+fn choices_in(alloc: Global, text: &str, n: i32) -> Result<String, AllocError> {
+    let Ok(found) = tokens(alloc, text.as_bytes()) else {
+        return String::from_str(alloc, "no tokens");
+    };
+    let Ok(tree) = parse(alloc, &found) else {
+        return String::from_str(alloc, "no tree");
+    };
+    choices(alloc, &tree, n)
+}
+
+// A text, an integer, and what the rules in the text choose for it.
+struct Choice {
+    text: &'static str,
+    argument: i32,
+    choices: &'static str,
+}
+
+static CHOICES: [Choice; 3] = [
+    Choice {
+        text: "process = case { (7) => 1; (x) => x; };",
+        argument: 7,
+        choices: "9 takes 1: Some((TreeId(2), 0)); ",
+    },
+    Choice {
+        text: "process = case { (7) => 1; (x) => x; };",
+        argument: 8,
+        choices: "9 takes 1: Some((TreeId(6), 1)); ",
+    },
+    Choice {
+        text: "process = case { (7, x) => x; };",
+        argument: 7,
+        choices: "6 takes 2: None; ",
+    },
+];
+
 #[test]
 fn the_first_rule_that_matches(rt: HostRuntime) -> Result<(), Fail> {
-    let alloc = rt.alloc();
-    let found = tokens(alloc, b"process = case { (7) => 1; (x) => x; };")?;
-    assert_eq!(rt;
-        choices(alloc, &found, 7)?.as_str(),
-        "9 takes 1: Some((TreeId(2), 0)); "
-    );
-    assert_eq!(rt;
-        choices(alloc, &found, 8)?.as_str(),
-        "9 takes 1: Some((TreeId(6), 1)); "
-    );
-    let found = tokens(alloc, b"process = case { (7, x) => x; };")?;
-    assert_eq!(rt; choices(alloc, &found, 7)?.as_str(), "6 takes 2: None; ");
+    for row in &CHOICES {
+        let line = choices_in(rt.alloc(), row.text, row.argument)?;
+        assert!(rt;
+            line.as_str() == row.choices,
+            "{} of {}: {line}",
+            row.text,
+            row.argument
+        );
+    }
     Ok(())
 }
 
@@ -126,42 +156,45 @@ fn arguments_come_in_order(rt: HostRuntime) -> Result<(), Fail> {
     Ok(())
 }
 
+// Binds 5 to 1, 6 to 2, and 5 to 3.
+fn bind_three(scopes: &mut Scopes) -> Result<u64, AllocError> {
+    let bindings = [(5, 1), (6, 2), (5, 3)].map(|(name, n)| Binding {
+        name,
+        value: value(n),
+    });
+    scopes.bind_all(&bindings, 0)
+}
+
+// A name, and the number that its value is told by.
+static MEANT: [(u64, u64); 3] = [(5, 3), (6, 2), (7, 0)];
+
+// Each of these names stands for its value.
+fn assert_meant(
+    rt: &impl Abort,
+    definitions: &Definitions,
+    scopes: &Scopes,
+    shortcuts: &mut Shortcuts,
+    env: u64,
+) {
+    for (name, n) in &MEANT {
+        let meaning = definitions.look_up(scopes, shortcuts, *name, env);
+        assert!(rt; meant(&meaning) == *n, "{name}");
+    }
+}
+
+// Binds three names, and compares what they stand for.
+fn assert_innermost(rt: &impl Abort, alloc: Global, tree: &Tree) -> Result<(), AllocError> {
+    let definitions = Definitions::new(alloc, tree)?;
+    let mut scopes = Scopes::new(alloc);
+    let env = bind_three(&mut scopes)?;
+    let mut shortcuts = Shortcuts::new(alloc);
+    assert_meant(rt, &definitions, &scopes, &mut shortcuts, env);
+    Ok(())
+}
+
 #[test]
 fn the_last_binding_is_innermost(rt: HostRuntime) -> Result<(), Fail> {
-    let alloc = rt.alloc();
-    let found = tokens(alloc, b"process = 1;")?;
-    let Ok(tree) = parse(alloc, &found) else {
-        return Err("no tree".into());
-    };
-    let definitions = Definitions::new(alloc, &tree)?;
-    let mut scopes = Scopes::new(alloc);
-    let bindings = [
-        Binding {
-            name: 5,
-            value: value(1),
-        },
-        Binding {
-            name: 6,
-            value: value(2),
-        },
-        Binding {
-            name: 5,
-            value: value(3),
-        },
-    ];
-    let env = scopes.bind_all(&bindings, 0)?;
-    let mut shortcuts = Shortcuts::new(alloc);
-    assert_eq!(rt;
-        meant(&definitions.look_up(&scopes, &mut shortcuts, 5, env)),
-        3
-    );
-    assert_eq!(rt;
-        meant(&definitions.look_up(&scopes, &mut shortcuts, 6, env)),
-        2
-    );
-    assert_eq!(rt;
-        meant(&definitions.look_up(&scopes, &mut shortcuts, 7, env)),
-        0
-    );
-    Ok(())
+    let found = tokens(rt.alloc(), b"process = 1;")?;
+    let tree = parse(rt.alloc(), &found)?;
+    Ok(assert_innermost(&rt, rt.alloc(), &tree)?)
 }

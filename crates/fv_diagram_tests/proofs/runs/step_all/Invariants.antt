@@ -1,5 +1,5 @@
 use Rattle.std.proofs.Common.{◌≡◌, ◌≤◌, length}
-use Rattle.fv_diagram_tests.proofs.runs.play.Given as goal
+use Rattle.fv_diagram_tests.proofs.runs.step_all.Given as goal
 
 abbrev pub invariant-frames : goal.invariant-frames
 invariant-frames g l = (l.stepper.ins ≡ l.ins) × (length l.stepper.outs ≡ l.outs) × (l.stepper.controls ≤ 2)
