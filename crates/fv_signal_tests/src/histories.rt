@@ -9,7 +9,6 @@ use std::test::Fail;
 use test_graphs::{Line, graph_over};
 
 // A graph as a table, and of each signal its rate, its history, and for which signal it stands.
-#[derive(Clone, Copy)]
 struct Row {
     lines: &'static [Line],
     groups: &'static [&'static [u64]],
@@ -18,7 +17,7 @@ struct Row {
     wanted: &'static [(Rate, u32, u64)],
 }
 
-const ROWS: [Row; 5] = [
+static ROWS: [Row; 5] = [
     // `_ * hslider(..)`
     Row {
         lines: &[Line::Input(0), Line::Control(0), Line::Pair(Op::Mul, 0, 1)],
@@ -120,8 +119,11 @@ fn assert_found(rt: &impl Abort, alloc: Global, row: &Row) -> Result<(), Fail> {
     assert!(rt; graph.len() == row.wanted.len() as u64 && stands.len() == row.wanted.len());
     for s in 0..row.wanted.len() {
         let id = SignalId::new(s as u64);
-        let found = (rates.get(id), histories.get(id), stands[s].number());
-        assert_eq!(rt; found, row.wanted[s], "signal {s}");
+        let (rate, history, number) = row.wanted[s];
+        assert!(rt;
+            rates.get(id) == rate && histories.get(id) == history && stands[s].number() == number,
+            "signal {s}"
+        );
     }
     Ok(())
 }
