@@ -1,9 +1,12 @@
 // Graphs that are built.
 
+ghost use Rattle.std.specs.Prelude.{◌≡◌, [], ◌∷◌, IfOk};
+ghost use Rattle.fv_share.specs.Drafts.{lists_in};
+
 use fv_num::Op;
 use fv_share::Builder;
 use fv_signal::{Signal, SignalId};
-use std::alloc::AllocError;
+use std::alloc::{AllocError, Global};
 use std::process::Abort;
 use std::test::Fail;
 use test_graphs::graph_over;
@@ -122,6 +125,20 @@ fn groups_are_numbered(rt: HostRuntime) -> Result<(), Fail> {
     Ok(())
 }
 
+// Two lists of signals.
+fn two_lists(
+    alloc: Global,
+    first: &[SignalId],
+    second: &[SignalId],
+) -> Result<Vec<Vec<SignalId>>, AllocError>
+    ensures { IfOk result (λ lists. lists_in lists.items ≡ first.now ∷ second.now ∷ []) }
+{
+    let mut lists = Vec::new(alloc);
+    lists.push(Vec::from_slice(alloc, first)?)?;
+    lists.push(Vec::from_slice(alloc, second)?)?;
+    Ok(lists)
+}
+
 #[test]
 fn groups_are_closed_together(rt: HostRuntime) -> Result<(), Fail> {
     let mut builder = Builder::new(rt.alloc());
@@ -129,9 +146,7 @@ fn groups_are_closed_together(rt: HostRuntime) -> Result<(), Fail> {
     let first = builder.open_groups(3)?;
     let back = builder.node(Signal::Back { group: 2, i: 0 })?;
     builder.close_group(first, &[])?;
-    let mut members = Vec::new(rt.alloc());
-    members.push(Vec::from_slice(rt.alloc(), &[input, back])?)?;
-    members.push(Vec::from_slice(rt.alloc(), &[input])?)?;
+    let members = two_lists(rt.alloc(), &[input, back], &[input])?;
     builder.close_groups(first + 1, members);
     let graph = builder.finish(&[back])?;
     assert!(rt; graph.groups() == 3);
