@@ -4,10 +4,29 @@ use fv_join::Job;
 use fv_num::Op;
 use std::alloc::Global;
 use std::test::Fail;
-use test_graphs::{Line, graph_of, graph_over};
+use test_graphs::{Line, by_a_control, graph_of, graph_over};
 
-/// `+ ~ _ : *(hslider(..))`: the running sum of the input, times the control.
-pub(crate) fn running_sum(alloc: Global) -> Result<Job, Fail> {
+/// The kinds of jobs that are joined.
+#[derive(Clone, Copy)]
+pub(crate) enum Kind {
+    RunningSum,
+    Crossed,
+    Items(&'static [i32]),
+    ByAControl,
+}
+
+/// A job of this kind.
+pub(crate) fn job(alloc: Global, kind: Kind) -> Result<Job, Fail> {
+    match kind {
+        Kind::RunningSum => running_sum(alloc),
+        Kind::Crossed => crossed(alloc),
+        Kind::Items(table) => items(alloc, table),
+        Kind::ByAControl => by_control(alloc),
+    }
+}
+
+// `+ ~ _ : *(hslider(..))`: the running sum of the input, times the control.
+fn running_sum(alloc: Global) -> Result<Job, Fail> {
     let lines = [
         Line::Input(0),
         Line::Back(0, 0),
@@ -47,8 +66,18 @@ pub(crate) fn crossed(alloc: Global) -> Result<Job, Fail> {
     })
 }
 
-/// The item of the table at the input, and the first item where the input is written at its own place.
-pub(crate) fn items(alloc: Global, table: &[i32]) -> Result<Job, Fail> {
+// The input times the control.
+fn by_control(alloc: Global) -> Result<Job, Fail> {
+    let graph = by_a_control(alloc)?;
+    Ok(Job {
+        graph,
+        inputs: 1,
+        controls: 1,
+    })
+}
+
+// The item of the table at the input, and the first item where the input is written at its own place.
+fn items(alloc: Global, table: &[i32]) -> Result<Job, Fail> {
     let lines = [
         Line::Input(0),
         Line::Const(0),

@@ -9,8 +9,8 @@ use std::test::Fail;
 use test_graphs::{Line, graph_over};
 
 // A graph as a table, and of each signal its rate, its history, and for which signal it stands.
-#[derive(Clone, Copy)]
 struct Row {
+    name: &'static str,
     lines: &'static [Line],
     groups: &'static [&'static [u64]],
     tables: &'static [&'static [i32]],
@@ -18,9 +18,10 @@ struct Row {
     wanted: &'static [(Rate, u32, u64)],
 }
 
-const ROWS: [Row; 5] = [
+static ROWS: [Row; 5] = [
     // `_ * hslider(..)`
     Row {
+        name: "an input times a control",
         lines: &[Line::Input(0), Line::Control(0), Line::Pair(Op::Mul, 0, 1)],
         groups: &[],
         tables: &[],
@@ -33,6 +34,7 @@ const ROWS: [Row; 5] = [
     },
     // `1 + 2`, and a control more
     Row {
+        name: "numbers and a control",
         lines: &[
             Line::Const(1),
             Line::Const(2),
@@ -53,6 +55,7 @@ const ROWS: [Row; 5] = [
     },
     // `mem`, and a delay of at most 3 of the same input
     Row {
+        name: "two delays of one input",
         lines: &[
             Line::Input(0),
             Line::Const(1),
@@ -71,6 +74,7 @@ const ROWS: [Row; 5] = [
     },
     // `+ ~ _`: the member has the history of the sum for which it stands.
     Row {
+        name: "a running sum",
         lines: &[
             Line::Input(0),
             Line::Back(0, 0),
@@ -89,6 +93,7 @@ const ROWS: [Row; 5] = [
     },
     // An item of a table has the rate of its place, and one of a table that is written has the samples'.
     Row {
+        name: "items of tables",
         lines: &[
             Line::Const(1),
             Line::Read(0, 0),
@@ -120,8 +125,12 @@ fn assert_found(rt: &impl Abort, alloc: Global, row: &Row) -> Result<(), Fail> {
     assert!(rt; graph.len() == row.wanted.len() as u64 && stands.len() == row.wanted.len());
     for s in 0..row.wanted.len() {
         let id = SignalId::new(s as u64);
-        let found = (rates.get(id), histories.get(id), stands[s].number());
-        assert_eq!(rt; found, row.wanted[s], "signal {s}");
+        let (rate, history, number) = row.wanted[s];
+        assert!(rt;
+            rates.get(id) == rate && histories.get(id) == history && stands[s].number() == number,
+            "signal {s} of {}",
+            row.name
+        );
     }
     Ok(())
 }

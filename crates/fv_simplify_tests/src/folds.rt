@@ -34,10 +34,10 @@ const FOLDS: [Line; 14] = [
 fn each_fold_makes_another(rt: HostRuntime) -> Result<(), Fail> {
     let graph = graph_of(rt.alloc(), &FOLDS, &[], &[13])?;
     let met = rules_met(rt.alloc(), &graph)?;
-    assert_eq!(rt; met.as_slice(), [Rule::OnNumbers].as_slice());
+    assert!(rt; met.as_slice() == [Rule::OnNumbers].as_slice());
     assert!(rt; are_short(&graph));
     let simpler = simplify(rt.alloc(), &graph, &[])?;
     assert!(rt; rules_met(rt.alloc(), &simpler)?.is_empty());
-    assert_eq!(rt; first_by_number(&simpler), Some((Signal::Input(0), 4)));
+    assert!(rt; first_by_number(&simpler) == Some((Signal::Input(0), 4)));
     Ok(())
 }

@@ -39,9 +39,9 @@ fn rounds(alloc: Global, count: u64) -> Result<Vec<Line>, AllocError> {
 fn many_signals(rt: HostRuntime) -> Result<(), Fail> {
     let lines = rounds(rt.alloc(), 20_000)?;
     let graph = graph_of(rt.alloc(), &lines, &[], &[100_003])?;
-    assert_eq!(rt; graph.len(), 100_004);
+    assert!(rt; graph.len() == 100_004);
     assert!(rt; are_short(&graph));
     let simpler = simplify(rt.alloc(), &graph, &[])?;
-    assert_eq!(rt; simpler.len(), 60_005);
+    assert!(rt; simpler.len() == 60_005);
     Ok(())
 }

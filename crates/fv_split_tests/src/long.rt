@@ -28,11 +28,12 @@ fn chain(alloc: Global, count: u64) -> Result<Vec<Line>, AllocError> {
 fn a_long_chain(rt: HostRuntime) -> Result<(), Fail> {
     let lines = chain(rt.alloc(), 99_998)?;
     let graph = graph_of(rt.alloc(), &lines, &[], &[99_999])?;
-    assert_eq!(rt; graph.len(), 100_000);
+    assert!(rt; graph.len() == 100_000);
     let plan = plan_of(rt.alloc(), &graph)?;
-    assert_eq!(rt;
-        (plan.loops(), plan.lanes().len(), plan.reads().len()),
-        (25_000, 25_000, 24_999)
+    assert!(rt;
+        plan.loops() == 25_000 && plan.lanes().len() == 25_000,
+        "loops"
     );
+    assert!(rt; plan.reads().len() == 24_999, "reads");
     Ok(())
 }
