@@ -4,13 +4,16 @@ ghost use Rattle.std.specs.Prelude.{◌≡◌, ◌^◌, ◌<◌, IfOk, length};
 ghost use Rattle.std.specs.List.{AllByRecursion};
 ghost use Rattle.fv_control.specs.Laws.{NeverFall, IsOfControls};
 ghost use Rattle.fv_engine_render.specs.Render.{CanHave};
+ghost use Rattle.fv_engine_render.specs.Stops.{IsSetFor};
+ghost use Rattle.fv_diagram.specs.Arena.{tree_of};
 
 use crate::memory::{Memory, MemoryTape};
 use fv_base::limits::{MOST_BLOCK, MOST_CHANNELS, MOST_VECTORS, MOST_WORKERS};
-use fv_control::{Script, scripts_are_lawful};
+use fv_control::{Change, Script, scripts_are_lawful};
 use fv_diagram::ControlInfo;
 use fv_diagram_play::play_script;
-use fv_engine_render::{Played, Ran, RunSizes, Source, initial_of, make_ready, render_tape};
+use fv_engine_render::{Played, Ran, Ready, RunSizes, Source, initial_of, make_ready, render_tape};
+use fv_eval::Program;
 use fv_interval::{Delays, spans, spans_of};
 use fv_num::Span;
 use fv_outside::Gate;
@@ -78,8 +81,12 @@ fn sizes_of(frames: u32, block: u32, vector: u32, workers: u32) -> Result<RunSiz
     ensures frames { IfOk result (λ s. s.frames ≡ frames) }
     ensures block { IfOk result (λ s. s.block ≡ block) }
 {
-    if block == 0 || block > MOST_BLOCK || vector == 0 || block.div_ceil(vector) > MOST_VECTORS {
+    if block == 0 || block > MOST_BLOCK || vector == 0 {
         return Err("sizes".into());
+    }
+    let vectors = (u64::from(block) + (u64::from(vector) - 1)) / u64::from(vector);
+    if vectors > u64::from(MOST_VECTORS) {
+        return Err("vectors".into());
     }
     if workers == 0 || workers > MOST_WORKERS {
         return Err("workers".into());
@@ -92,27 +99,16 @@ fn sizes_of(frames: u32, block: u32, vector: u32, workers: u32) -> Result<RunSiz
     })
 }
 
-/// What a run in blocks by so many workers gives.
-pub(crate) fn rendered_by<R: Threads + Wait + Sync, G: Gate + Sync>(
-    rt: &R,
-    alloc: Global,
-    case: &Case,
-    block: u32,
-    vector: u32,
-    workers: u32,
-    gate: &mut G,
-) -> Result<Answer, Fail> {
-    let program = program_of(alloc, case.program)?;
-    let controls = program.controls.as_slice();
-    let script = script_of(alloc, case.script, controls)?;
+// All the memory of a run of a program, in which its engine stands.
+fn ready_of(alloc: Global, program: &Program, sizes: &RunSizes) -> Result<Ready, Fail>
+    requires { CanHave sizes.now }
+    ensures { IfOk result (λ r. IsSetFor (tree_of program.now.diagrams program.now.root) program.now.controls sizes.now r) }
+{
     let arity = program.diagrams.arity(program.root);
     if arity.outputs == 0 || arity.inputs > MOST_CHANNELS {
         return Err("channels".into());
     }
-    if case.input.len() != case.frames as usize * arity.inputs as usize {
-        return Err("input".into());
-    }
-    let sizes = sizes_of(case.frames, block, vector, workers)?;
+    let controls = program.controls.as_slice();
     let bounds = spans_of(alloc, controls)?;
     let Ok(delays) = spans(alloc, &program.diagrams, program.root, &bounds) else {
         return Err("delays".into());
@@ -123,30 +119,50 @@ pub(crate) fn rendered_by<R: Threads + Wait + Sync, G: Gate + Sync>(
         delays: &delays,
         controls,
     };
-    let ready = make_ready(alloc, &source, &sizes)?;
+    let ready = make_ready(alloc, &source, sizes)?;
+    Ok(ready)
+}
+
+// A run over a tape in memory, for which all memory was taken.
+fn played_on<R: Threads + Wait + Sync, G: Gate + Sync>(
+    rt: &R,
+    alloc: Global,
+    program: &Program,
+    changes: &[Change],
+    sizes: &RunSizes,
+    ready: Ready,
+    input: &[i32],
+    gate: &mut G,
+) -> Result<Answer, Fail>
+    requires sizes { CanHave sizes.now }
+    requires order { NeverFall 0 changes.now }
+    requires lawful { AllByRecursion (IsOfControls program.now.controls) changes.now }
+    requires ready { IsSetFor (tree_of program.now.diagrams program.now.root) program.now.controls sizes.now ready }
+{
+    let arity = program.diagrams.arity(program.root);
     let played = Played {
         inputs: arity.inputs,
         outputs: arity.outputs,
-        controls,
+        controls: program.controls.as_slice(),
     };
     let mut tape = MemoryTape {
-        left: case.frames,
-        most: block,
+        left: sizes.frames,
+        most: sizes.block,
         inputs: arity.inputs,
         outputs: arity.outputs,
     };
     let mut memory = Memory {
-        input: case.input,
+        input,
         heard: 0,
-        output: vec![in alloc; 0i32; case.frames as usize * arity.outputs as usize]?,
+        output: vec![in alloc; 0i32; sizes.frames as usize * arity.outputs as usize]?,
         said: 0,
     };
     let ran = match render_tape(
         rt,
         alloc,
         &played,
-        script.changes(),
-        &sizes,
+        changes,
+        sizes,
         ready,
         &mut tape,
         &mut memory,
@@ -160,6 +176,36 @@ pub(crate) fn rendered_by<R: Threads + Wait + Sync, G: Gate + Sync>(
         samples: memory.output,
         ran,
     })
+}
+
+/// What a run in blocks by so many workers gives.
+pub(crate) fn rendered_by<R: Threads + Wait + Sync, G: Gate + Sync>(
+    rt: &R,
+    alloc: Global,
+    case: &Case,
+    block: u32,
+    vector: u32,
+    workers: u32,
+    gate: &mut G,
+) -> Result<Answer, Fail> {
+    let sizes = sizes_of(case.frames, block, vector, workers)?;
+    let program = program_of(alloc, case.program)?;
+    let inputs = program.diagrams.arity(program.root).inputs;
+    if case.input.len() != case.frames as usize * inputs as usize {
+        return Err("input".into());
+    }
+    let script = script_of(alloc, case.script, program.controls.as_slice())?;
+    let ready = ready_of(alloc, &program, &sizes)?;
+    played_on(
+        rt,
+        alloc,
+        &program,
+        script.changes(),
+        &sizes,
+        ready,
+        case.input,
+        gate,
+    )
 }
 
 /// What the runner of diagrams gives.

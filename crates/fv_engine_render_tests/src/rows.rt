@@ -98,10 +98,12 @@ const WRAPPED: Case = Case {
 // How many frames a block and a vector have at most.
 const SIZES: [(u32, u32); 5] = [(1, 1), (7, 7), (7, 3), (512, 32), (4096, 64)];
 
+static CASES: [Case; 8] = [ECHO, DIFFERENCE, FADER, NOISE, WAVES, CHOSEN, LOOPER, SUMS];
+
 #[test]
 fn blocks_give_what_the_runner_gives(rt: HostRuntime) -> Result<(), Fail> {
     let alloc = rt.alloc();
-    for case in &[ECHO, DIFFERENCE, FADER, NOISE, WAVES, CHOSEN, LOOPER, SUMS] {
+    for case in &CASES {
         let wanted = stepped(alloc, case)?;
         for (block, vector) in &SIZES {
             let answer = rendered(&rt, alloc, case, *block, *vector, &mut FreeGate)?;
@@ -124,36 +126,47 @@ fn an_echo(rt: HostRuntime) -> Result<(), Fail> {
     Ok(())
 }
 
+static SIMPLER: [(&Case, &[i32], u64); 3] = [
+    (&DELAYS, &[0, 0, 0, 0, 0, 1, 2], 2),
+    (&LATER, &[0, 0, 5], 2),
+    (&WRAPPED, &[-1], 1),
+];
+
 // Loops are those of the simpler graph: of two delays in a row none for the first, and of numbers what they come to.
 #[test]
 fn graphs_are_simpler(rt: HostRuntime) -> Result<(), Fail> {
-    let rows: [(&Case, &[i32], u64); 3] = [
-        (&DELAYS, &[0, 0, 0, 0, 0, 1, 2], 2),
-        (&LATER, &[0, 0, 5], 2),
-        (&WRAPPED, &[-1], 1),
-    ];
-    for (case, samples, loops) in rows {
+    for (case, samples, loops) in &SIMPLER {
         for (block, vector) in &SIZES {
             let answer = rendered(&rt, rt.alloc(), case, *block, *vector, &mut FreeGate)?;
-            assert_eq!(rt; answer.samples.as_slice(), samples);
-            assert_eq!(rt; answer.ran.loops, loops);
+            assert_eq!(rt;
+                (answer.samples.as_slice(), answer.ran.loops),
+                (*samples, *loops),
+                "{} {block} {vector}",
+                case.program
+            );
         }
     }
     Ok(())
 }
 
+static TABLES: [(&Case, &[i32]); 3] = [
+    (&CHOSEN, &[2, 8, 12, 16, 20, 6, 7]),
+    (&LOOPER, &[-7, -7, -7, 1, 2, 3, 4, 5, 6]),
+    (&SUMS, &[1, 4, -1, 1, 2, 6, 11, 12, 20, 12, 29, 12]),
+];
+
 // Of 5 numbers that were -7, and of sums whose table is read where it is written, and where it never is.
 #[test]
 fn tables_over_blocks(rt: HostRuntime) -> Result<(), Fail> {
-    let rows: [(&Case, &[i32]); 3] = [
-        (&CHOSEN, &[2, 8, 12, 16, 20, 6, 7]),
-        (&LOOPER, &[-7, -7, -7, 1, 2, 3, 4, 5, 6]),
-        (&SUMS, &[1, 4, -1, 1, 2, 6, 11, 12, 20, 12, 29, 12]),
-    ];
-    for (case, samples) in rows {
+    for (case, samples) in &TABLES {
         for (block, vector) in &SIZES {
             let answer = rendered(&rt, rt.alloc(), case, *block, *vector, &mut FreeGate)?;
-            assert_eq!(rt; answer.samples.as_slice(), samples);
+            assert_eq!(rt;
+                answer.samples.as_slice(),
+                *samples,
+                "{} {block} {vector}",
+                case.program
+            );
         }
     }
     Ok(())
@@ -228,10 +241,12 @@ fn a_gate_without_room(rt: HostRuntime) -> Result<(), Fail> {
     Ok(())
 }
 
+static COUNTED: [Case; 4] = [ECHO, DIFFERENCE, FADER, NOISE];
+
 // The gate sees each loop before it runs, as often as is counted.
 #[test]
 fn each_run_is_seen(rt: HostRuntime) -> Result<(), Fail> {
-    for case in &[ECHO, DIFFERENCE, FADER, NOISE] {
+    for case in &COUNTED {
         for (block, vector) in &SIZES {
             let mut counter = Counter::new();
             let answer = rendered(&rt, rt.alloc(), case, *block, *vector, &mut counter)?;

@@ -1,8 +1,6 @@
 // Rows of blocks.
 
 ghost use Rattle.std.specs.Prelude.{◌≡◌, ◌<◌, ◌≤◌, length};
-ghost use Rattle.fv_base.specs.declared.limits.TheConstants.{MOST_BLOCK, MOST_VECTORS, MOST_WORKERS};
-ghost use Rattle.fv_engine.specs.Block.{vectors_of};
 ghost use Rattle.fv_engine_tests.specs.Runs.{IsSquare};
 
 use crate::engines::{Sizes, engine_of, play, play_graph};
@@ -50,6 +48,21 @@ fn play_difference<R: Abort + Threads + Wait + Sync, G: Gate + Sync>(
     Ok((reported.tasks, output))
 }
 
+// Of a block it was told so many loops, one vector, who reads whom, and these lines.
+fn assert_told(
+    rt: &impl Abort,
+    recorder: &Recorder,
+    block: u32,
+    loops: u64,
+    reads: &[Reads],
+    lines: &[Line],
+) {
+    let Some(told) = block_of(recorder, block) else {
+        panic!(rt; "no block {block}");
+    };
+    assert_eq!(rt; told, (loops, 1, reads, lines), "block {block}");
+}
+
 // One block, of which the recorder has just the room: two loops, the second reads the first, and the first has finished before the
 // second starts.
 #[test]
@@ -62,13 +75,8 @@ fn one_block_is_told(rt: HostRuntime) -> Result<(), Fail> {
         reader: 1,
         source: 0,
     };
-    let Some((loops, vectors, reads, lines)) = block_of(&recorder, 0) else {
-        panic!(rt; "no block");
-    };
-    assert_eq!(rt;
-        (loops, vectors, reads, lines),
-        (2, 1, [read].as_slice(), [line(0, 0), line(1, 2)].as_slice())
-    );
+    let lines = [line(0, 0), line(1, 2)];
+    assert_told(&rt, &recorder, 0, 2, &[read], &lines);
     Ok(())
 }
 
@@ -118,7 +126,25 @@ fn play_fives<R: Threads + Wait + Sync>(
     );
 }
 
-// The control is 1, from the third frame on 3, and from the fourth 0: three blocks are told, of one vector each.
+// Three blocks: the control is 1, from the third frame on 3, and from the fourth 0.
+fn play_changes<R: Threads + Wait + Sync>(
+    rt: &R,
+    alloc: Global,
+    engine: &mut Engine,
+    recorder: &mut Recorder,
+) -> ([i32; 2], [i32; 1], [i32; 2])
+    requires { IsSquare engine.old 1 4 1 }
+{
+    let mut first = [0; 2];
+    let mut second = [0; 1];
+    let mut third = [0; 2];
+    play_fives(rt, alloc, engine, 1, &mut first, recorder);
+    play_fives(rt, alloc, engine, 3, &mut second, recorder);
+    play_fives(rt, alloc, engine, 0, &mut third, recorder);
+    (first, second, third)
+}
+
+// Each block is told, of one loop, one vector and one line.
 #[test]
 fn a_control_that_changes(rt: HostRuntime) -> Result<(), Fail> {
     let graph = by_a_control(rt.alloc())?;
@@ -126,28 +152,15 @@ fn a_control_that_changes(rt: HostRuntime) -> Result<(), Fail> {
         panic!(rt; "no engine");
     };
     let mut recorder = Recorder::new(rt.alloc(), 3, 3)?;
-    let mut output = [0; 2];
-    let mut one = [0; 1];
-    play_fives(&rt, rt.alloc(), &mut engine, 1, &mut output, &mut recorder);
-    assert_eq!(rt; output, [5, 5]);
-    play_fives(&rt, rt.alloc(), &mut engine, 3, &mut one, &mut recorder);
-    assert_eq!(rt; one, [15]);
-    play_fives(&rt, rt.alloc(), &mut engine, 0, &mut output, &mut recorder);
-    assert_eq!(rt; output, [0, 0]);
-    assert_eq!(rt; recorder.calls(), Some(3));
-    assert_one_line(&rt, &recorder, 0);
-    assert_one_line(&rt, &recorder, 1);
-    assert_one_line(&rt, &recorder, 2);
+    let outputs = play_changes(&rt, rt.alloc(), &mut engine, &mut recorder);
+    assert_eq!(rt;
+        (outputs, recorder.calls()),
+        (([5, 5], [15], [0, 0]), Some(3))
+    );
+    for block in 0..3 {
+        assert_told(&rt, &recorder, block, 1, &[], &[line(0, 0)]);
+    }
     Ok(())
-}
-
-// The block has one loop, one vector and one line.
-fn assert_one_line(rt: &impl Abort, recorder: &Recorder, block: u32) {
-    let Some((loops, vectors, reads, lines)) = block_of(recorder, block) else {
-        panic!(rt; "no block {block}");
-    };
-    assert_eq!(rt; (loops, vectors, reads.len()), (1, 1, 0), "block {block}");
-    assert_eq!(rt; lines, [line(0, 0)].as_slice(), "block {block}");
 }
 
 // A history longer than a block, over three blocks of two frames at most.
@@ -173,8 +186,7 @@ fn a_delay_over_blocks(rt: HostRuntime) -> Result<(), Fail> {
         &mut output,
         &mut recorder,
     )?;
-    assert_eq!(rt; output, [0, 0, 0, 1, 2]);
-    assert_eq!(rt; recorder.calls(), Some(3));
+    assert_eq!(rt; (output, recorder.calls()), ([0, 0, 0, 1, 2], Some(3)));
     Ok(())
 }
 
@@ -182,10 +194,9 @@ fn a_delay_over_blocks(rt: HostRuntime) -> Result<(), Fail> {
 #[test]
 fn a_ring_over_blocks(rt: HostRuntime) -> Result<(), Fail> {
     let graph = delayed(rt.alloc(), 20)?;
-    assert_ring(&rt, rt.alloc(), &graph, 1, 1)?;
-    assert_ring(&rt, rt.alloc(), &graph, 3, 1)?;
-    assert_ring(&rt, rt.alloc(), &graph, 1, 2)?;
-    assert_ring(&rt, rt.alloc(), &graph, 3, 2)?;
+    for (block, workers) in [(1, 1), (3, 1), (1, 2), (3, 2)] {
+        assert_ring(&rt, rt.alloc(), &graph, block, workers)?;
+    }
     Ok(())
 }
 
@@ -196,11 +207,7 @@ fn assert_ring<R: Abort + Threads + Wait + Sync>(
     graph: &Graph,
     block: u32,
     workers: u32,
-) -> Result<(), NoMemory>
-    requires block { (1 ≤ block) × (block ≤ MOST_BLOCK) }
-    requires vector { vectors_of block 1 ≤ MOST_VECTORS }
-    requires workers { (1 ≤ workers) × (workers ≤ MOST_WORKERS) }
-{
+) -> Result<(), NoMemory> {
     let sizes = Sizes {
         width: 1,
         block,
@@ -233,22 +240,47 @@ fn assert_ring<R: Abort + Threads + Wait + Sync>(
 #[test]
 fn two_loops_by_several_workers(rt: HostRuntime) -> Result<(), Fail> {
     let graph = difference(rt.alloc())?;
-    assert_differences(&rt, rt.alloc(), &graph, 1)?;
-    assert_differences(&rt, rt.alloc(), &graph, 2)?;
-    assert_differences(&rt, rt.alloc(), &graph, 3)?;
+    for workers in [1, 2, 3] {
+        assert_differences(&rt, rt.alloc(), &graph, workers)?;
+    }
     Ok(())
 }
 
-// The samples are 1, 3, 5, 7 .. of each square, and each line of the second loop starts behind the finish of the first one's on its
-// vector; lines stand by their starts.
+// Where a line is of the second loop, it starts behind the finish of the first one's on its vector.
+fn follows_its_source(line: &Line, lines: &[Line]) -> bool {
+    for source in lines {
+        let is_read = line.task.loop_no == 1
+            && source.task.loop_no == 0
+            && source.task.vector == line.task.vector;
+        if is_read && source.finish >= line.start {
+            return false;
+        }
+    }
+    true
+}
+
+// The lines of the first block do so, and stand by their starts.
+fn is_in_order(recorder: &Recorder) -> bool {
+    let Some((_, _, _, lines)) = block_of(recorder, 0) else {
+        return false;
+    };
+    let mut last = 0;
+    for line in lines {
+        if line.start < last || !follows_its_source(line, lines) {
+            return false;
+        }
+        last = line.start;
+    }
+    true
+}
+
+// The samples are 1, 3, 5, 7 .. of each square, by 12 tasks in order, and no block runs alone.
 fn assert_differences<R: Abort + Threads + Wait + Sync>(
     rt: &R,
     alloc: Global,
     graph: &Graph,
     workers: u32,
-) -> Result<(), Fail>
-    requires workers { (1 ≤ workers) × (workers ≤ MOST_WORKERS) }
-{
+) -> Result<(), Fail> {
     let sizes = Sizes {
         width: 1,
         block: 32,
@@ -269,29 +301,11 @@ fn assert_differences<R: Abort + Threads + Wait + Sync>(
         &mut recorder,
     )?;
     assert_eq!(rt;
-        (reported.tasks, reported.alone),
-        (12, 0),
+        (reported.tasks, reported.alone, output),
+        (12, 0, [1, 3, 5, 7, 9, 11, 13, 15, 17, 19, 21, 23]),
         "workers {workers}"
     );
-    assert_eq!(rt;
-        output,
-        [1, 3, 5, 7, 9, 11, 13, 15, 17, 19, 21, 23],
-        "workers {workers}"
-    );
-    let Some((_, _, _, lines)) = block_of(&recorder, 0) else {
-        panic!(rt; "no block");
-    };
-    let mut last = 0;
-    for line in lines {
-        assert!(rt; last <= line.start, "workers {workers}");
-        last = line.start;
-        for source in lines {
-            let is_read = line.task.loop_no == 1
-                && source.task.loop_no == 0
-                && source.task.vector == line.task.vector;
-            assert!(rt; !is_read || source.finish < line.start, "workers {workers}");
-        }
-    }
+    assert!(rt; is_in_order(&recorder), "workers {workers}");
     Ok(())
 }
 
@@ -299,9 +313,9 @@ fn assert_differences<R: Abort + Threads + Wait + Sync>(
 #[test]
 fn echoes_by_each_size(rt: HostRuntime) -> Result<(), Fail> {
     let graph = echo_left(rt.alloc())?;
-    assert_echoes(&rt, rt.alloc(), &graph, (0, 0), 1, 1, 1)?;
-    assert_echoes(&rt, rt.alloc(), &graph, (0, 0), 7, 7, 1)?;
-    assert_echoes(&rt, rt.alloc(), &graph, (0, 0), 512, 32, 1)?;
+    for (block, vector) in [(1, 1), (7, 7), (512, 32)] {
+        assert_echoes(&rt, rt.alloc(), &graph, (0, 0), block, vector, 1)?;
+    }
     Ok(())
 }
 
@@ -310,14 +324,39 @@ fn echoes_by_each_size(rt: HostRuntime) -> Result<(), Fail> {
 fn blocks_that_always_run_alone_are_refused(rt: HostRuntime) -> Result<(), Fail> {
     let text = "echo(d,g) = + ~ (@(d-1) : *(g) : /(256)); process = par(i,2,echo(11025,128));";
     let graph = graph_of(rt.alloc(), text)?;
-    assert_echoes(&rt, rt.alloc(), &graph, (-3, -1), 7, 7, 2)?;
-    assert_echoes(&rt, rt.alloc(), &graph, (-3, -1), 512, 32, 2)?;
-    assert_echoes(&rt, rt.alloc(), &graph, (-3, -1), 512, 32, 16)?;
+    for (block, vector, workers) in [(7, 7, 2), (512, 32, 2), (512, 32, 16)] {
+        assert_echoes(&rt, rt.alloc(), &graph, (-3, -1), block, vector, workers)?;
+    }
     Ok(())
 }
 
 // The left channel is 1000 at first, half of it after 11,025 samples, and a quarter after as many more; the right one is -7 at first,
 // and these two numbers at the same places.
+fn echo_at(frame: usize, right: (i32, i32)) -> (i32, i32) {
+    match frame {
+        0 => (1000, -7),
+        11025 => (500, right.0),
+        22050 => (250, right.1),
+        _ => (0, 0),
+    }
+}
+
+// The frames are those.
+fn assert_are_echoes(rt: &impl Abort, output: &[i32], right: (i32, i32), sizes: Sizes)
+    requires { length output.now ≡ 44102 }
+{
+    for t in 0..22051 {
+        assert_eq!(rt;
+            (output[2 * t], output[2 * t + 1]),
+            echo_at(t, right),
+            "frame {t}, block {}, workers {}",
+            sizes.block,
+            sizes.workers
+        );
+    }
+}
+
+// What is heard is the first frame and silence, and what is said are those. No block runs alone.
 fn assert_echoes<R: Abort + Threads + Wait + Sync>(
     rt: &R,
     alloc: Global,
@@ -326,11 +365,7 @@ fn assert_echoes<R: Abort + Threads + Wait + Sync>(
     block: u32,
     vector: u32,
     workers: u32,
-) -> Result<(), NoMemory>
-    requires block { (1 ≤ block) × (block ≤ MOST_BLOCK) }
-    requires vector { (1 ≤ vector) × (vectors_of block vector ≤ MOST_VECTORS) }
-    requires workers { (1 ≤ workers) × (workers ≤ MOST_WORKERS) }
-{
+) -> Result<(), NoMemory> {
     let sizes = Sizes {
         width: 2,
         block,
@@ -352,22 +387,13 @@ fn assert_echoes<R: Abort + Threads + Wait + Sync>(
         &mut output,
         &mut counter,
     )?;
-    for t in 0..22051 {
-        let wanted = match t {
-            0 => (1000, -7),
-            11025 => (500, right.0),
-            22050 => (250, right.1),
-            _ => (0, 0),
-        };
-        assert_eq!(rt;
-            (output[2 * t], output[2 * t + 1]),
-            wanted,
-            "frame {t}, block {block}, workers {workers}"
-        );
-    }
+    assert_are_echoes(rt, &output, right, sizes);
     assert!(rt; reported.tasks > 0);
-    assert_eq!(rt; reported.alone, 0, "block {block}, workers {workers}");
-    assert_eq!(rt; counter.tasks(), reported.tasks, "block {block}");
+    assert_eq!(rt;
+        (reported.alone, counter.tasks()),
+        (0, reported.tasks),
+        "block {block}, workers {workers}"
+    );
     Ok(())
 }
 
@@ -383,6 +409,17 @@ fn an_engine_after_want_of_memory(rt: HostRuntime) -> Result<(), Fail> {
     Ok(())
 }
 
+// Of an engine of two lanes, how long each one's part is, and all of the region, and where each history starts.
+fn parts_of(engine: &Engine) -> Option<([u64; 2], u64, [u64; 2])> {
+    let layout = engine.layout();
+    if layout.len() != 2 {
+        return None;
+    }
+    let lengths = [layout.length(0), layout.length(1)];
+    let starts = [engine.state(0).start, engine.state(1).start];
+    Some((lengths, engine.region().len(), starts))
+}
+
 // Each lane has a part, of a history and a block, and its history starts there.
 #[test]
 fn lanes_have_parts(rt: HostRuntime) -> Result<(), Fail> {
@@ -396,10 +433,6 @@ fn lanes_have_parts(rt: HostRuntime) -> Result<(), Fail> {
     let Some(engine) = engine_of(rt.alloc(), &graph, sizes, 0)? else {
         panic!(rt; "no engine");
     };
-    let layout = engine.layout();
-    assert_eq!(rt; layout.len(), 2);
-    assert_eq!(rt; (layout.length(0), layout.length(1)), (5, 4));
-    assert_eq!(rt; engine.region().len(), 9);
-    assert_eq!(rt; (engine.state(0).start, engine.state(1).start), (0, 0));
+    assert_eq!(rt; parts_of(&engine), Some(([5, 4], 9, [0, 0])));
     Ok(())
 }

@@ -1,12 +1,13 @@
 // Engines of graphs, and their runs.
 
-ghost use Rattle.std.specs.Prelude.{◌≡◌, ◌*◌, ◌^◌, ◌<◌, ◌≤◌, IfOk, IfSome, length};
+ghost use Rattle.std.specs.Prelude.{◌≡◌, ◌*◌, ◌^◌, ◌<◌, ◌≤◌, IfOk, IfSome, IsTrue, length};
 ghost use Rattle.fv_base.specs.declared.limits.TheConstants.{MOST_BLOCK, MOST_CHANNELS, MOST_VECTORS, MOST_WORKERS};
 ghost use Rattle.fv_engine.specs.Block.{vectors_of};
 ghost use Rattle.fv_engine_tests.specs.Runs.{IsSquare};
 
 use crate::may::{histories_beyond, names_beyond};
 use fv_analysis::{largest_delays, rates};
+use fv_base::limits::{MOST_BLOCK, MOST_CHANNELS, MOST_VECTORS, MOST_WORKERS};
 use fv_engine::{Engine, NoMemory};
 use fv_outside::Gate;
 use fv_signal::Graph;
@@ -26,6 +27,26 @@ pub(crate) struct Sizes {
     pub(crate) workers: u32,
 }
 
+impl Sizes {
+    // An engine may have them.
+    fn are_allowed(self) -> bool
+        ensures width { IsTrue result → self.width ≤ MOST_CHANNELS }
+        ensures block { IsTrue result → (1 ≤ self.block) × (self.block ≤ MOST_BLOCK) }
+        ensures vector { IsTrue result → (1 ≤ self.vector) × (vectors_of self.block self.vector ≤ MOST_VECTORS) }
+        ensures workers { IsTrue result → (1 ≤ self.workers) × (self.workers ≤ MOST_WORKERS) }
+    {
+        if self.width > MOST_CHANNELS || self.workers == 0 || self.workers > MOST_WORKERS {
+            return false;
+        }
+        if self.block == 0 || self.block > MOST_BLOCK || self.vector == 0 {
+            return false;
+        }
+        let vectors = (u64::from(self.block) + (u64::from(self.vector) - 1))
+            / u64::from(self.vector);
+        vectors <= u64::from(MOST_VECTORS)
+    }
+}
+
 /// How many tasks were reported, and how many blocks that ran alone.
 #[derive(Clone, Copy, PartialEq, Eq, Debug)]
 pub(crate) struct Reported {
@@ -40,12 +61,13 @@ pub(crate) fn engine_of(
     sizes: Sizes,
     controls: usize,
 ) -> Result<Option<Engine>, NoMemory>
-    requires width { sizes.width ≤ MOST_CHANNELS }
-    requires block { (1 ≤ sizes.block) × (sizes.block ≤ MOST_BLOCK) }
-    requires vector { (1 ≤ sizes.vector) × (vectors_of sizes.block sizes.vector ≤ MOST_VECTORS) }
-    requires workers { (1 ≤ sizes.workers) × (sizes.workers ≤ MOST_WORKERS) }
-    ensures { IfOk result (λ e. IfSome e (λ e. IsSquare e sizes.width sizes.block controls)) }
+    ensures block { IfOk result (λ e. IfSome e (λ e. 1 ≤ sizes.block)) }
+    ensures square { IfOk result (λ e. IfSome e (λ e. IsSquare e sizes.width sizes.block controls)) }
 {
+    let allowed = sizes.are_allowed();
+    if !allowed {
+        return Ok(None);
+    }
     let rates = rates(alloc, graph)?;
     let histories = largest_delays(alloc, graph)?;
     let plan = split(alloc, graph, &rates, &histories)?;
@@ -127,10 +149,6 @@ pub(crate) fn play_graph<R: Abort + Threads + Wait + Sync, G: Gate + Sync>(
     output: &mut [i32],
     gate: &mut G,
 ) -> Result<Reported, NoMemory>
-    requires width { sizes.width ≤ MOST_CHANNELS }
-    requires block { (1 ≤ sizes.block) × (sizes.block ≤ MOST_BLOCK) }
-    requires vector { (1 ≤ sizes.vector) × (vectors_of sizes.block sizes.vector ≤ MOST_VECTORS) }
-    requires workers { (1 ≤ sizes.workers) × (sizes.workers ≤ MOST_WORKERS) }
     requires input { length input.now ≡ frames * sizes.width }
     requires output { length output.old ≡ frames * sizes.width }
 {

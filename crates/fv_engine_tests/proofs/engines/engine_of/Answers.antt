@@ -6,8 +6,8 @@ use Rattle.fv_engine_tests.proofs.engines.engine_of.Goals as goal
 pub prepare-requires-clause-inputs : goal.prepare-requires-clause-inputs
 prepare-requires-clause-inputs c = λ j i h. c.names_beyond-beyond.ensures.inputs c.if-beyond.false i (c.in_ok-plan.ensures.names.inputs j i h)
 
-pub returns : goal.returns
-returns c =
+pub returns-clause-square : goal.returns-clause-square
+returns-clause-square c =
     let parts = c.in_ok-engine.ensures.parts in
     record {
       channels = parts.1;
