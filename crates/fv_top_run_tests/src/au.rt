@@ -1,5 +1,6 @@
 // The command `au`.
 
+use crate::cut::{Cut, WIRE, assert_all_cut};
 use std::test::Fail;
 use test_runs::{Row, THREE, TO_AU, WORDS, assert_all_end};
 
@@ -36,62 +37,79 @@ const NO_CHANNELS: [u8; 30] =
 const LATE: [u8; 30] =
     *b".snd\0\0\0\x1f\0\0\0\x06\0\0\0\x03\0\0\xac\x44\0\0\0\x01\0\x01\xff\xfe\0\x03";
 
+static PLAYED: [Row; 6] = [
+    (&TO_AU, WIRE, &AU_THREE, (0, "done 3 frames\n", &AU_THREE)),
+    (&TO_WAVE, WIRE, &AU_THREE, (0, "done 3 frames\n", &THREE)),
+    (&TO_AU, WIRE, &THREE, (0, "done 3 frames\n", &AU_THREE)),
+    (&TO_AU, WIRE, &AU_OPEN, (0, "done 3 frames\n", &AU_THREE)),
+    (
+        &TO_AU,
+        "process = _ + 1;",
+        &AU_BYTES,
+        (0, "done 3 frames\n", &AU_LOUDER),
+    ),
+    (&TO_WAVE, WIRE, &THREE, (0, "done 3 frames\n", &THREE)),
+];
+
+// Where the size is not stated, a file may end within a sample.
+static WITHOUT_SIZE: [Cut; 1] = [Cut {
+    words: &TO_AU,
+    input: &AU_OPEN,
+    there: 29,
+    status: 0,
+    line: "done 2 frames\n",
+    output: &AU_TWO,
+    written: 28,
+}];
+
 #[test]
 fn plays_au_files(rt: HostRuntime) -> Result<(), Fail> {
-    let text = "process = _;";
-    let rows: [Row; 7] = [
-        (&TO_AU, text, &AU_THREE, (0, "done 3 frames\n", &AU_THREE)),
-        (&TO_WAVE, text, &AU_THREE, (0, "done 3 frames\n", &THREE)),
-        (&TO_AU, text, &THREE, (0, "done 3 frames\n", &AU_THREE)),
-        (&TO_AU, text, &AU_OPEN, (0, "done 3 frames\n", &AU_THREE)),
-        (
-            &TO_AU,
-            text,
-            &AU_OPEN[..29],
-            (0, "done 2 frames\n", &AU_TWO),
-        ),
-        (
-            &TO_AU,
-            "process = _ + 1;",
-            &AU_BYTES,
-            (0, "done 3 frames\n", &AU_LOUDER),
-        ),
-        (&TO_WAVE, text, &THREE, (0, "done 3 frames\n", &THREE)),
-    ];
-    assert_all_end(&rt, rt.alloc(), &rows)
+    assert_all_end(&rt, rt.alloc(), &PLAYED)?;
+    assert_all_cut(&rt, rt.alloc(), &WITHOUT_SIZE)
 }
+
+static REFUSED: [Row; 5] = [
+    (
+        &TO_AU,
+        WIRE,
+        &LOW_OFFSET,
+        (4, "refused 44 AuFormat 4\n", &[]),
+    ),
+    (&TO_AU, WIRE, &MU_LAW, (4, "refused 44 AuFormat 12\n", &[])),
+    (
+        &TO_AU,
+        WIRE,
+        &NO_CHANNELS,
+        (4, "refused 44 AuFormat 20\n", &[]),
+    ),
+    (&TO_AU, WIRE, &LATE, (4, "refused 45 AuTruncated 30\n", &[])),
+    (&WORDS, WIRE, &AU_THREE, (4, "refused 34 NotWave 0\n", &[])),
+];
+
+// Where it is stated, it may not, nor within its head.
+static TRUNCATED: [Cut; 2] = [
+    Cut {
+        words: &TO_AU,
+        input: &AU_THREE,
+        there: 29,
+        status: 4,
+        line: "refused 45 AuTruncated 29\n",
+        output: &AU_THREE,
+        written: 24,
+    },
+    Cut {
+        words: &TO_AU,
+        input: &AU_THREE,
+        there: 15,
+        status: 4,
+        line: "refused 45 AuTruncated 15\n",
+        output: &[],
+        written: 0,
+    },
+];
 
 #[test]
 fn refuses_au_files(rt: HostRuntime) -> Result<(), Fail> {
-    let text = "process = _;";
-    let rows: [Row; 7] = [
-        (
-            &TO_AU,
-            text,
-            &AU_THREE[..29],
-            (4, "refused 45 AuTruncated 29\n", &AU_THREE[..24]),
-        ),
-        (
-            &TO_AU,
-            text,
-            &AU_THREE[..15],
-            (4, "refused 45 AuTruncated 15\n", &[]),
-        ),
-        (
-            &TO_AU,
-            text,
-            &LOW_OFFSET,
-            (4, "refused 44 AuFormat 4\n", &[]),
-        ),
-        (&TO_AU, text, &MU_LAW, (4, "refused 44 AuFormat 12\n", &[])),
-        (
-            &TO_AU,
-            text,
-            &NO_CHANNELS,
-            (4, "refused 44 AuFormat 20\n", &[]),
-        ),
-        (&TO_AU, text, &LATE, (4, "refused 45 AuTruncated 30\n", &[])),
-        (&WORDS, text, &AU_THREE, (4, "refused 34 NotWave 0\n", &[])),
-    ];
-    assert_all_end(&rt, rt.alloc(), &rows)
+    assert_all_end(&rt, rt.alloc(), &REFUSED)?;
+    assert_all_cut(&rt, rt.alloc(), &TRUNCATED)
 }

@@ -1,9 +1,9 @@
 // The blocks of whole runs, as gates see them.
 
 use crate::hostile::FIVE;
-use fv_outside::{Line, Reads, Recorder, Task};
+use fv_outside::{Gate, Line, Reads, Recorder, Task};
 use fv_top::Tally;
-use std::alloc::Global;
+use std::alloc::{AllocError, Global};
 use std::process::Abort;
 use std::sync::Wait;
 use std::test::Fail;
@@ -11,18 +11,27 @@ use std::thread::Threads;
 use test_gates::{Counter, block_of};
 use test_runs::{BLOCKS_OF_FOUR, GAIN, Played, assert_plays, desk_of, tally_of};
 
+/// What is counted where nothing ran.
+pub const NOTHING: Tally = Tally {
+    frames: 0,
+    blocks: 0,
+    loops: 0,
+    loop_runs: 0,
+};
+
+static CHANGES: Played = (
+    &BLOCKS_OF_FOUR,
+    GAIN,
+    (1, &[5, 5, 5, 5, 5]),
+    (1, &[5, 5, 15, 0, 0]),
+    "done 5 frames\n",
+);
+
 // A gain that changes at frames 2 and 3, on five frames.
 #[test]
 fn tells_a_block_for_each_change(rt: HostRuntime) -> Result<(), Fail> {
     let mut gate = Recorder::new(rt.alloc(), 8, 64)?;
-    let played: Played = (
-        &BLOCKS_OF_FOUR,
-        GAIN,
-        (1, &[5, 5, 5, 5, 5]),
-        (1, &[5, 5, 15, 0, 0]),
-        "done 5 frames\n",
-    );
-    let tally = assert_plays(&rt, rt.alloc(), &played, &mut gate)?;
+    let tally = assert_plays(&rt, rt.alloc(), &CHANGES, &mut gate)?;
     let wanted = Tally {
         frames: 5,
         blocks: 3,
@@ -49,26 +58,27 @@ fn line(loop_no: u64, start: u64, finish: u64) -> Line {
     }
 }
 
+static DIFFERENCE: Played = (
+    &["run", "p.dsp", "in.wav", "out.wav"],
+    "process = _ <: _, mem : -;",
+    (1, &[1, -2, 3]),
+    (1, &[1, -3, 5]),
+    "done 3 frames\n",
+);
+
 // A signal less its `mem` under a gate with room for so many lines: two loops, of which the second reads the first.
 fn play_difference(
     rt: &(impl Threads + Wait + Sync + Abort),
     alloc: Global,
     gate: &mut Recorder,
 ) -> Result<(), Fail> {
-    let played: Played = (
-        &["run", "p.dsp", "in.wav", "out.wav"],
-        "process = _ <: _, mem : -;",
-        (1, &[1, -2, 3]),
-        (1, &[1, -3, 5]),
-        "done 3 frames\n",
-    );
     let wanted = Tally {
         frames: 3,
         blocks: 1,
         loops: 2,
         loop_runs: 2,
     };
-    assert_eq!(rt; assert_plays(rt, alloc, &played, gate)?, wanted);
+    assert_eq!(rt; assert_plays(rt, alloc, &DIFFERENCE, gate)?, wanted);
     Ok(())
 }
 
@@ -105,18 +115,31 @@ fn tells_nothing_without_room(rt: HostRuntime) -> Result<(), Fail> {
     Ok(())
 }
 
+// What is counted of a run over the gain and five frames, with these words.
+fn tally_of_gain<G: Gate + Sync>(
+    rt: &(impl Threads + Wait + Sync),
+    alloc: Global,
+    words: &[&str],
+    gate: &mut G,
+) -> Result<Option<Tally>, AllocError> {
+    let mut desk = desk_of(alloc, GAIN.as_bytes(), &FIVE)?;
+    tally_of(rt, alloc, &mut desk, words, gate)
+}
+
+static COUNTED: [(&[&str], u32, u64); 2] = [
+    (&BLOCKS_OF_FOUR, 5, 3),
+    (&["make", "5", "1000", "1"], 1000, 4),
+];
+
 #[test]
 fn counts_what_runs(rt: HostRuntime) -> Result<(), Fail> {
-    let rows: [(&[&str], u32, u64); 2] = [
-        (&BLOCKS_OF_FOUR, 5, 3),
-        (&["make", "5", "1000", "1"], 1000, 4),
-    ];
-    for (words, frames, blocks) in rows {
-        let mut desk = desk_of(rt.alloc(), GAIN.as_bytes(), &FIVE)?;
+    for (words, frames, blocks) in &COUNTED {
         let mut gate = Counter::new();
-        let tally = tally_of(&rt, rt.alloc(), &mut desk, words, &mut gate)?;
-        let counted = tally.map(|t| (t.frames, t.blocks, t.loop_runs));
-        assert_eq!(rt; counted, Some((frames, blocks, u128::from(gate.tasks()))));
+        let tally = tally_of_gain(&rt, rt.alloc(), words, &mut gate)?.unwrap_or(NOTHING);
+        assert_eq!(rt;
+            (tally.frames, tally.blocks, tally.loop_runs),
+            (*frames, *blocks, u128::from(gate.tasks()))
+        );
     }
     Ok(())
 }
@@ -124,15 +147,8 @@ fn counts_what_runs(rt: HostRuntime) -> Result<(), Fail> {
 // What is only checked has no blocks.
 #[test]
 fn counts_nothing_of_a_check(rt: HostRuntime) -> Result<(), Fail> {
-    let mut desk = desk_of(rt.alloc(), GAIN.as_bytes(), &FIVE)?;
     let mut gate = Recorder::new(rt.alloc(), 1, 1)?;
-    let tally = tally_of(&rt, rt.alloc(), &mut desk, &["check", "p.dsp"], &mut gate)?;
-    let none = Tally {
-        frames: 0,
-        blocks: 0,
-        loops: 0,
-        loop_runs: 0,
-    };
-    assert_eq!(rt; (tally, gate.calls()), (Some(none), Some(0)));
+    let tally = tally_of_gain(&rt, rt.alloc(), &["check", "p.dsp"], &mut gate)?;
+    assert_eq!(rt; (tally, gate.calls()), (Some(NOTHING), Some(0)));
     Ok(())
 }

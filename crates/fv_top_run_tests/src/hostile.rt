@@ -10,7 +10,9 @@ use std::process::Abort;
 use std::sync::Wait;
 use std::test::Fail;
 use std::thread::Threads;
-use test_runs::{BLOCKS_OF_FOUR, GAIN, Row, THREE, TO_AU, WORDS, assert_ends, desk_of, status_of};
+use test_runs::{
+    BLOCKS_OF_FOUR, End, GAIN, Row, THREE, TO_AU, WORDS, assert_ends, desk_of, status_of,
+};
 
 const ROLES: [Role; 5] = [
     Role::Program,
@@ -57,35 +59,50 @@ const AU_OPEN_ROW: Row = (
     (0, "done 3 frames\n", &AU_THREE),
 );
 
+// A desk that gives and takes so many bytes at a time.
+fn desk_in_pieces(
+    alloc: Global,
+    text: &str,
+    input: &[u8],
+    size: u32,
+) -> Result<MemoryDesk, AllocError>
+    requires { 1 ≤ size }
+{
+    let mut desk = desk_of(alloc, text.as_bytes(), input)?;
+    for role in ROLES {
+        desk.pieces(role, size);
+    }
+    Ok(desk)
+}
+
+static IN_PIECES: [Row; 5] = [WIRE_ROW, GAIN_ROW, ODD_ROW, AU_ROW, AU_OPEN_ROW];
+
 #[test]
 fn plays_in_pieces(rt: HostRuntime) -> Result<(), Fail> {
-    for (words, text, input, end) in [WIRE_ROW, GAIN_ROW, ODD_ROW, AU_ROW, AU_OPEN_ROW] {
+    for (words, text, input, end) in &IN_PIECES {
         for size in 1..8 {
-            let mut desk = desk_of(rt.alloc(), text.as_bytes(), input)?;
-            for role in ROLES {
-                desk.pieces(role, size);
-            }
-            assert_ends(&rt, rt.alloc(), &mut desk, words, end)?;
+            let mut desk = desk_in_pieces(rt.alloc(), text, input, size)?;
+            assert_ends(&rt, rt.alloc(), &mut desk, words, *end)?;
         }
     }
     Ok(())
 }
 
 // The line of a refusal for a fault of a role.
-fn fault_line(role: Role) -> &'static [u8] {
+fn fault_line(role: Role) -> &'static str {
     match role {
-        Role::Program => b"refused 2 ReadFault program\n",
-        Role::Input => b"refused 2 ReadFault input\n",
-        Role::Controls => b"refused 2 ReadFault controls\n",
-        Role::Output => b"refused 3 WriteFault output\n",
-        Role::Report => b"refused 3 WriteFault report\n",
+        Role::Program => "refused 2 ReadFault program\n",
+        Role::Input => "refused 2 ReadFault input\n",
+        Role::Controls => "refused 2 ReadFault controls\n",
+        Role::Output => "refused 3 WriteFault output\n",
+        Role::Report => "refused 3 WriteFault report\n",
     }
 }
 
 // What is seen of a run whose call for a role failed: its line alone, behind what was reported before only where the report failed, and
 // of the whole output a part from the front.
 fn is_fault(desk: &MemoryDesk, role: Role, output: &[u8]) -> bool {
-    let line = fault_line(role);
+    let line = fault_line(role).as_bytes();
     let report = desk.written(Role::Report);
     report.ends_with(line)
         && (role == Role::Report || report.len() == line.len())
@@ -121,14 +138,16 @@ fn calls_that_fail(
     Ok(200)
 }
 
+/// Runs, and whether each has a script: one without asks for none.
+static WITH_FAULTS: [(Row, bool); 3] = [(WIRE_ROW, false), (GAIN_ROW, true), (ODD_ROW, false)];
+
 #[test]
 fn each_call_of_each_role_fails(rt: HostRuntime) -> Result<(), Fail> {
-    // A run without a script asks for none.
-    for (row, has_script) in [(WIRE_ROW, false), (GAIN_ROW, true), (ODD_ROW, false)] {
+    for (row, has_script) in &WITH_FAULTS {
         for role in ROLES {
-            let is_asked = has_script || role != Role::Controls;
+            let is_asked = *has_script || role != Role::Controls;
             for size in [1, 1000] {
-                let calls = calls_that_fail(&rt, rt.alloc(), &row, role, size)?;
+                let calls = calls_that_fail(&rt, rt.alloc(), row, role, size)?;
                 assert!(rt; calls < 200 && (calls > 0) == is_asked, "{role:?} {size}");
             }
         }
@@ -136,46 +155,63 @@ fn each_call_of_each_role_fails(rt: HostRuntime) -> Result<(), Fail> {
     Ok(())
 }
 
+static CALLS: [(Row, Role, u32); 6] = [
+    (WIRE_ROW, Role::Program, 3),
+    (WIRE_ROW, Role::Input, 13),
+    (WIRE_ROW, Role::Output, 12),
+    (WIRE_ROW, Role::Report, 3),
+    (AU_ROW, Role::Input, 4),
+    (AU_OPEN_ROW, Role::Input, 5),
+];
+
 #[test]
 fn names_what_failed(rt: HostRuntime) -> Result<(), Fail> {
-    let rows: [(Row, Role, u32); 6] = [
-        (WIRE_ROW, Role::Program, 3),
-        (WIRE_ROW, Role::Input, 13),
-        (WIRE_ROW, Role::Output, 12),
-        (WIRE_ROW, Role::Report, 3),
-        (AU_ROW, Role::Input, 4),
-        (AU_OPEN_ROW, Role::Input, 5),
-    ];
-    for (row, role, calls) in rows {
+    for (row, role, calls) in &CALLS {
         assert_eq!(rt;
-            calls_that_fail(&rt, rt.alloc(), &row, role, 1000)?,
-            calls,
+            calls_that_fail(&rt, rt.alloc(), row, *role, 1000)?,
+            *calls,
             "{role:?}"
         );
     }
     Ok(())
 }
 
-// Where the refusal's own line can not be written, the answer and the output are what they are where it can. Whether there was a refusal.
+// The desk of the gain on five frames, of which a call for a role will fail.
+fn failing_desk(alloc: Global, role: Role, call: u32) -> Result<MemoryDesk, AllocError> {
+    let mut desk = desk_of(alloc, GAIN.as_bytes(), &FIVE)?;
+    desk.fail(role, call)?;
+    Ok(desk)
+}
+
+// A run over that desk ends so where the refusal's own line can not be written.
+fn assert_ends_in_silence(
+    rt: &(impl Threads + Wait + Sync),
+    alloc: Global,
+    role: Role,
+    call: u32,
+    end: End<'_>,
+) -> Result<(), Fail> {
+    let mut desk = failing_desk(alloc, role, call)?;
+    for later in 0..4 {
+        desk.fail(Role::Report, later)?;
+    }
+    assert_ends(rt, alloc, &mut desk, &BLOCKS_OF_FOUR, end)
+}
+
+// Where it can not, the answer and the output are what they are where it can. Whether there was a refusal.
 fn ends_alike_in_silence(
     rt: &(impl Threads + Wait + Sync),
     alloc: Global,
     role: Role,
     call: u32,
 ) -> Result<bool, Fail> {
-    let mut desk = desk_of(alloc, GAIN.as_bytes(), &FIVE)?;
-    desk.fail(role, call)?;
+    let mut desk = failing_desk(alloc, role, call)?;
     let ended = status_of(rt, alloc, &mut desk, &BLOCKS_OF_FOUR)?;
     if ended == 0 {
         return Ok(false);
     }
-    let mut silent = desk_of(alloc, GAIN.as_bytes(), &FIVE)?;
-    silent.fail(role, call)?;
-    for later in 0..4 {
-        silent.fail(Role::Report, later)?;
-    }
     let end = (ended, "", desk.written(Role::Output));
-    assert_ends(rt, alloc, &mut silent, &BLOCKS_OF_FOUR, end)?;
+    assert_ends_in_silence(rt, alloc, role, call, end)?;
     Ok(true)
 }
 
@@ -191,13 +227,19 @@ fn a_line_that_fails_changes_nothing(rt: HostRuntime) -> Result<(), Fail> {
     Ok(())
 }
 
-#[test]
-fn writes_what_there_is_room_for(rt: HostRuntime) -> Result<(), Fail> {
-    let mut desk = MemoryDesk::new(rt.alloc());
+// A desk that has room for all but the last byte of an output.
+fn desk_without_room(alloc: Global) -> Result<MemoryDesk, AllocError> {
+    let mut desk = MemoryDesk::new(alloc);
     desk.put("p.dsp", b"process = _;")?;
     desk.put("in.wav", &THREE)?;
     desk.room(Role::Output, 49)?;
     desk.room(Role::Report, 100)?;
+    Ok(desk)
+}
+
+#[test]
+fn writes_what_there_is_room_for(rt: HostRuntime) -> Result<(), Fail> {
+    let mut desk = desk_without_room(rt.alloc())?;
     let end = (1, "refused 3 WriteFault output\n", &THREE[..49]);
     assert_ends(&rt, rt.alloc(), &mut desk, &WORDS, end)
 }

@@ -11,6 +11,8 @@ mod au;
 #[cfg(test)]
 mod blocks;
 #[cfg(test)]
+mod cut;
+#[cfg(test)]
 mod files;
 #[cfg(test)]
 mod hostile;

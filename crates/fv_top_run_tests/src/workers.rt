@@ -2,6 +2,7 @@
 
 ghost use Rattle.std.specs.Prelude.{◌<◌};
 
+use crate::blocks::NOTHING;
 use fv_outside::{FreeGate, Gate, Role};
 use fv_top::Tally;
 use std::alloc::{AllocError, Global};
@@ -12,35 +13,37 @@ use std::thread::Threads;
 use test_gates::{Counter, Meeting, Until};
 use test_runs::{Played, assert_plays, desk_of, file_of, tally_of};
 
+static TWO_LOOPS: Played = (
+    &["run", "p.dsp", "in.wav", "out.wav", "--workers", "2"],
+    "process = _ + 1, _ * 2;",
+    (2, &[1, 1, 5, -3]),
+    (2, &[2, 2, 6, -6]),
+    "done 2 frames\n",
+);
+
 // Two loops that read nothing of one another. The gate holds each task until the other is about to run, so two threads run them.
 #[test]
 fn tasks_all_on_one_thread_are_refused(rt: HostRuntime) -> Result<(), Fail> {
-    let played: Played = (
-        &["run", "p.dsp", "in.wav", "out.wav", "--workers", "2"],
-        "process = _ + 1, _ * 2;",
-        (2, &[1, 1, 5, -3]),
-        (2, &[2, 2, 6, -6]),
-        "done 2 frames\n",
-    );
     let mut gate = Meeting::new(0, 1);
-    let tally = assert_plays(&rt, rt.alloc(), &played, &mut gate)?;
+    let tally = assert_plays(&rt, rt.alloc(), &TWO_LOOPS, &mut gate)?;
     assert_eq!(rt; (tally.blocks, gate.missed()), (1, false));
     Ok(())
 }
+
+static THREE_LOOPS: Played = (
+    &["run", "p.dsp", "in.wav", "out.wav", "--workers", "2"],
+    "process = _ + 1, _ * 2, _ - 3;",
+    (3, &[1, 1, 1, 5, -3, 0]),
+    (3, &[2, 2, -2, 6, -6, -3]),
+    "done 2 frames\n",
+);
 
 // Three loops that read nothing of one another. Worker 0 has the tasks of loops 0 and 2, and takes the former first. The gate holds it
 // until that of loop 2 is about to run, so worker 1 has stolen that.
 #[test]
 fn workers_that_never_steal_are_refused(rt: HostRuntime) -> Result<(), Fail> {
-    let played: Played = (
-        &["run", "p.dsp", "in.wav", "out.wav", "--workers", "2"],
-        "process = _ + 1, _ * 2, _ - 3;",
-        (3, &[1, 1, 1, 5, -3, 0]),
-        (3, &[2, 2, -2, 6, -6, -3]),
-        "done 2 frames\n",
-    );
     let mut gate = Until::new(0, 2);
-    let tally = assert_plays(&rt, rt.alloc(), &played, &mut gate)?;
+    let tally = assert_plays(&rt, rt.alloc(), &THREE_LOOPS, &mut gate)?;
     assert_eq!(rt; (tally.blocks, gate.missed()), (1, false));
     Ok(())
 }
@@ -50,14 +53,21 @@ fn workers_that_never_steal_are_refused(rt: HostRuntime) -> Result<(), Fail> {
 fn thirds(alloc: Global, apart: usize, loud: [i32; 3]) -> Result<Vec<u8>, AllocError>
     requires { apart < 1000000 }
 {
-    let mut samples = Vec::from_elem(alloc, 0, 4 * apart + 2)?;
     let [first, second, third] = loud;
-    samples[0] = first;
-    samples[1] = first;
-    samples[2 * apart] = second;
-    samples[2 * apart + 1] = second;
-    samples[4 * apart] = third;
-    samples[4 * apart + 1] = third;
+    let last = 2 * apart;
+    let mut samples = Vec::new(alloc);
+    for frame in 0..last + 1 {
+        let sample = if frame == 0 {
+            first
+        } else if frame == apart {
+            second
+        } else if frame == last {
+            third
+        } else {
+            0
+        };
+        samples.extend_from_slice(&[sample, sample])?;
+    }
     file_of(alloc, 2, &samples)
 }
 
@@ -93,22 +103,23 @@ const SHORT: (&str, usize) = (
     110,
 );
 
+static ECHOES: [((&str, usize), &str, &str, &str); 8] = [
+    (SHORT, "--block=1", "--vector=1", "--workers=1"),
+    (SHORT, "--block=7", "--vector=7", "--workers=1"),
+    (SHORT, "--block=512", "--vector=32", "--workers=1"),
+    (QUARTERS, "--block=1", "--vector=1", "--workers=1"),
+    (QUARTERS, "--block=1", "--vector=1", "--workers=2"),
+    (QUARTERS, "--block=512", "--vector=32", "--workers=1"),
+    (QUARTERS, "--block=512", "--vector=32", "--workers=2"),
+    (QUARTERS, "--block=512", "--vector=32", "--workers=16"),
+];
+
 // By sixteen workers the built program plays a part of them by frames (`.ci/check-program`), since that takes sixteen threads for each.
 #[test]
 fn echoes_by_each_size(rt: HostRuntime) -> Result<(), Fail> {
-    let rows: [((&str, usize), &str, &str, &str); 8] = [
-        (SHORT, "--block=1", "--vector=1", "--workers=1"),
-        (SHORT, "--block=7", "--vector=7", "--workers=1"),
-        (SHORT, "--block=512", "--vector=32", "--workers=1"),
-        (QUARTERS, "--block=1", "--vector=1", "--workers=1"),
-        (QUARTERS, "--block=1", "--vector=1", "--workers=2"),
-        (QUARTERS, "--block=512", "--vector=32", "--workers=1"),
-        (QUARTERS, "--block=512", "--vector=32", "--workers=2"),
-        (QUARTERS, "--block=512", "--vector=32", "--workers=16"),
-    ];
-    for (echo, block, vector, workers) in rows {
+    for (echo, block, vector, workers) in &ECHOES {
         let words = ["run", "p.dsp", "in.wav", "out.wav", block, vector, workers];
-        echoes(&rt, rt.alloc(), echo, &words, &mut FreeGate)?;
+        echoes(&rt, rt.alloc(), *echo, &words, &mut FreeGate)?;
     }
     Ok(())
 }
@@ -127,12 +138,9 @@ fn tasks_that_no_gate_sees_are_refused(rt: HostRuntime) -> Result<(), Fail> {
             "--vector=7",
             workers,
         ];
-        let tally = echoes(&rt, rt.alloc(), QUARTERS, &words, &mut gate)?;
-        let runs = u128::from(gate.tasks());
-        assert!(rt;
-            runs > 0 && tally.is_some_and(|t| t.loop_runs == runs),
-            "{workers}"
-        );
+        let tally = echoes(&rt, rt.alloc(), QUARTERS, &words, &mut gate)?.unwrap_or(NOTHING);
+        let seen = u128::from(gate.tasks());
+        assert!(rt; seen > 0 && tally.loop_runs == seen, "{workers}");
     }
     Ok(())
 }
