@@ -1,1 +1,0 @@
--- All is found by search. The file keeps the gate from looking for answers to offer where a wrong body is tried.
