@@ -4,3 +4,4 @@ pub mod Spans
 pub mod Frames
 pub mod Valuation
 pub mod Tables
+pub mod Primitives
