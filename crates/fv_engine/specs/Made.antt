@@ -1,5 +1,5 @@
 -- What an engine is made of.
-use Rattle.std.specs.Prelude.{◌≡◌, ℕ, ◌<◌, List, length, take, ℤ}
+use Rattle.std.specs.Prelude.{◌≡◌, ℕ, ◌<◌, List, length, take, ℤ, IfSome}
 use Rattle.fv_signal.specs.Frames.{Stream}
 use Rattle.fv_outside.specs.headline.Tasks.{reads_loop}
 use Rattle.fv_graph.specs.Graph.{Graph}
@@ -16,6 +16,9 @@ use Rattle.fv_engine_tasks.specs.Jobs.{HaveScratch}
 use Rattle.fv_engine_crew.specs.Contents.{parts_of}
 use Rattle.fv_engine.specs.Past.{past}
 use Rattle.fv_engine.specs.declared.lanes.Lanes.{Lanes}
+use Rattle.fv_engine_tasks.specs.headline.Block.{vectors_of}
+use Rattle.fv_engine.specs.Crews.{IsCrewOf}
+use Rattle.fv_engine.specs.declared.make.EngineParts.{EngineParts}
 use Rattle.fv_engine.specs.declared.runner.TaskRunner.{TaskRunner}
 
 -- each lane has a shape, of its history and this block, and the length for both
@@ -48,3 +51,11 @@ pub record AreLanes (p : PlanView) (block : ℕ) (lanes : Lanes) : Type 0 where
 pub record IsRunner (p : PlanView) (most : ℕ) (r : TaskRunner) : Type 0 where
   pub tasks_are : AreTasksOf p most r.tasks
   pub scratch : HaveScratch (parts_of p) r.scratch.items
+
+-- what an engine of a plan works with, for so many workers, frames a block and frames a vector
+pub record AreEngineParts (p : PlanView) (workers block vector : ℕ) (parts : EngineParts) : Type 0 where
+  pub lanes : AreLanes p block parts.lanes
+  pub held : length parts.held.items ≡ length p.held
+  pub runner : IsRunner p (vectors_of block vector) parts.runner
+  pub crew : IfSome parts.crew (λ c. IsCrewOf p parts.runner.tasks.tasks c)
+  pub as_many : IfSome parts.crew (λ c. c.workers ≡ workers)

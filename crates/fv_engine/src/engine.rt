@@ -14,12 +14,11 @@ ghost use Rattle.fv_engine_tasks.specs.headline.Block.{vectors_of};
 ghost use Rattle.fv_engine.specs.Stands.{StandsFor, GoesOn, SameParts, HaveLengths, StartsIn};
 ghost use Rattle.fv_engine.specs.Told.{tasks_told, IsEntry, HasRoomForBlock};
 
-use crate::crew::crew_for;
 use crate::crew_codes::CrewCodes;
 use crate::error::NoMemory;
 use crate::hold::hold;
 use crate::lanes::Lanes;
-use crate::make::{blank_lanes, runner_for, vectors};
+use crate::make::{EngineParts, engine_parts, vectors};
 use crate::plan_codes::PlanCodes;
 use crate::runner::TaskRunner;
 use crate::sizes::Sizes;
@@ -88,10 +87,12 @@ impl Engine {
         // It stands for no frames yet.
         ensures stands { IfOk result (λ e. (g : Graph) (s : PlanStands g e.plan) (c : ℕ → Stream) → StandsFor e g s.names [] c) }
     {
-        let lanes = blank_lanes(alloc, &plan, block)?;
-        let held = Vec::from_elem(alloc, 0, plan.held().len() as usize)?;
-        let runner = runner_for(alloc, &plan, vectors(block, vector))?;
-        let crew = crew_for(alloc, &plan, &runner.tasks, workers)?;
+        let EngineParts {
+            lanes,
+            held,
+            runner,
+            crew,
+        } = engine_parts(alloc, &plan, workers, block, vector)?;
         let sizes = Sizes {
             channels,
             workers,

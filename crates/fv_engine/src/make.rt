@@ -1,15 +1,17 @@
 // What an engine is made of.
 
 ghost use Rattle.std.specs.Prelude.{◌≡◌, ℕ, ◌^◌, ◌<◌, ◌≤◌, true, IfOk, length, map, sum};
-ghost use Rattle.fv_base.specs.declared.limits.TheConstants.{DELAY_BUDGET, MOST_BLOCK};
+ghost use Rattle.fv_base.specs.declared.limits.TheConstants.{DELAY_BUDGET, MOST_BLOCK, MOST_WORKERS};
 ghost use Rattle.fv_lines.specs.declared.shape.LaneShape.{LaneShape as Shape};
 ghost use Rattle.fv_split_plan.specs.headline.View.{lane_info, cells_info};
 ghost use Rattle.fv_split_plan.specs.Rows.{lists_of};
 ghost use Rattle.fv_engine_tasks.specs.headline.Block.{vectors_of};
 ghost use Rattle.fv_engine_tasks.specs.Jobs.{HaveScratch};
 ghost use Rattle.fv_engine_crew.specs.Contents.{parts_of};
-ghost use Rattle.fv_engine.specs.Made.{AreShapes, AreLanes, BeginAsTables, IsRunner};
+ghost use Rattle.fv_engine.specs.Made.{AreShapes, AreLanes, BeginAsTables, IsRunner, AreEngineParts};
 
+use crate::crew::crew_for;
+use crate::crew_codes::CrewCodes;
 use crate::lanes::Lanes;
 use crate::runner::TaskRunner;
 use fv_graph::Tasks;
@@ -140,5 +142,43 @@ pub(crate) fn runner_for(alloc: Global, plan: &Plan, most: u32) -> Result<TaskRu
         scratch,
         kept,
         lines,
+    })
+}
+
+/// What an engine works with beside its plan: the lanes, the held values of a block, what runs the tasks, and what a crew needs.
+#[derive(Drop)]
+pub(crate) struct EngineParts {
+    pub(crate) lanes: Lanes,
+    pub(crate) held: Vec<i32>,
+    pub(crate) runner: TaskRunner,
+    pub(crate) crew: Option<CrewCodes>,
+}
+
+/// What an engine of this plan works with. They are made by a call of their own, which lets go of them alone where memory ends, and not of
+/// the plan.
+pub(crate) fn engine_parts(
+    alloc: Global,
+    plan: &Plan,
+    workers: u32,
+    block: u32,
+    vector: u32,
+) -> Result<EngineParts, AllocError>
+    requires loops { 0 < plan.now.loops }
+    requires histories { (l : ℕ) → l < length plan.now.lanes → (lane_info plan.now l).history ≤ DELAY_BUDGET }
+    requires tables { (k : ℕ) → k < length plan.now.cells → (cells_info plan.now k).table < length plan.now.tables }
+    requires block { (1 ≤ block) × (block ≤ MOST_BLOCK) }
+    requires vector { 1 ≤ vector }
+    requires workers { (1 ≤ workers) × (workers ≤ MOST_WORKERS) }
+    ensures { IfOk result (λ parts. AreEngineParts plan.now workers block vector parts) }
+{
+    let lanes = blank_lanes(alloc, plan, block)?;
+    let held = Vec::from_elem(alloc, 0, plan.held().len() as usize)?;
+    let runner = runner_for(alloc, plan, vectors(block, vector))?;
+    let crew = crew_for(alloc, plan, &runner.tasks, workers)?;
+    Ok(EngineParts {
+        lanes,
+        held,
+        runner,
+        crew,
     })
 }

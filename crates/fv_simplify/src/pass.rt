@@ -1,8 +1,8 @@
 // A pass over a graph.
 
-ghost use Rattle.std.specs.Prelude.{◌≡◌, ℕ, ◌+◌, ◌<◌, [], ◌∷◌, ◌++◌, length, take, map, All, IfOk, slice_index_or, List, Bool, false};
-ghost use Rattle.fv_signal.specs.headline.Value.{members};
-ghost use Rattle.fv_share.specs.Drafts.{IsPending, lists_in};
+ghost use Rattle.std.specs.Prelude.{◌≡◌, ℕ, ◌+◌, ◌<◌, [], ◌∷◌, ◌++◌, length, take, map, All, IfOk, OnOk, slice_index_or, List, Bool, false};
+ghost use Rattle.fv_signal.specs.headline.Value.{members, IsGraph};
+ghost use Rattle.fv_share.specs.Drafts.{AreClosed, IsPending, graph_of, lists_in};
 ghost use Rattle.fv_simplify_rules.specs.Nodes.{node};
 ghost use Rattle.fv_simplify_rules.specs.headline.Reducible.{AreShort};
 ghost use Rattle.fv_simplify_rules.specs.Rebuilt.{IsMarked, IsRebuilt};
@@ -31,10 +31,7 @@ pub(crate) fn rebuild(
     ensures { IfOk result (λ h. (p : ℕ → ℕ) × IsRebuilt graph.now h p (room_in rooms.now) (IsMarked marks.now)) }
 {
     let mut builder = begun(alloc, graph)?;
-    let images = passed(alloc, &mut builder, graph, marks, rooms)?;
-    let outputs = images_of(alloc, graph.outputs(), &images)?;
-    let groups = definitions(alloc, graph, widths, &images)?;
-    builder.close_groups(0, groups);
+    let outputs = fill(alloc, &mut builder, graph, marks, widths, rooms)?;
     builder.finish(&outputs)
 }
 
@@ -43,10 +40,45 @@ fn begun(alloc: Global, graph: &Graph) -> Result<Builder, AllocError>
     ensures { IfOk result (λ b. b ≡ (begun_of graph.now).draft) }
 {
     let mut builder = Builder::new(alloc);
+    begin(&mut builder, graph)?;
+    Ok(builder)
+}
+
+// The same, in a builder that has nothing.
+fn begin(builder: &mut Builder, graph: &Graph) -> Result<(), AllocError>
+    requires { builder.old ≡ record { signals = []; groups = []; closed = []; tables = [] } }
+    ensures { OnOk result (builder.new ≡ (begun_of graph.now).draft) }
+{
     let _first = builder.open_groups(graph.groups())?;
     let _tables = builder.add_tables(graph)?;
-    let _zero = put_number(&mut builder, 0)?;
-    Ok(builder)
+    let _zero = put_number(builder, 0)?;
+    Ok(())
+}
+
+// All signals and the definitions of all groups, in a builder that has begun; the images of the outputs.
+fn fill(
+    alloc: Global,
+    builder: &mut Builder,
+    graph: &Graph,
+    marks: &[bool],
+    widths: &[u64],
+    rooms: &[Option<u32>],
+) -> Result<Vec<SignalId>, AllocError>
+    requires begun { builder.old ≡ (begun_of graph.now).draft }
+    requires short { AreShort graph.now }
+    requires marks { length marks.now ≡ length graph.now.signals }
+    requires widths { length widths.now ≡ length graph.now.groups }
+    requires good { AreGood graph.now marks.now widths.now }
+    ensures closed { OnOk result (AreClosed builder.new) }
+    ensures outputs { IfOk result (λ v. All (λ s. s < length builder.new.signals) v.items) }
+    ensures rebuilt { IfOk result (λ v. IsGraph (graph_of builder.new v.items)
+        → (p : ℕ → ℕ) × IsRebuilt graph.now (graph_of builder.new v.items) p (room_in rooms.now) (IsMarked marks.now)) }
+{
+    let images = passed(alloc, builder, graph, marks, rooms)?;
+    let outputs = images_of(alloc, graph.outputs(), &images)?;
+    let groups = definitions(alloc, graph, widths, &images)?;
+    builder.close_groups(0, groups);
+    Ok(outputs)
 }
 
 // The images of all signals, put one after another.

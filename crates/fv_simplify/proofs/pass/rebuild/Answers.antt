@@ -1,86 +1,15 @@
-use Rattle.std.proofs.Common.{◌≡◌, ◌<◌, ℕ, List, length, map, get_or, All, sym, ap, ap₂, ◌∙◌, subst, arith}
-use Rattle.std.proofs.lemmas.List.Elements.{All-get_or, All-from_get_or, All-map}
-use Rattle.fv_signal.specs.headline.Value.{members, IsGraph}
-use Rattle.fv_share.specs.Drafts.{Draft, AreClosed, CanClose, graph_of, lists_in, with_all_members}
+use Rattle.std.proofs.Common.{◌≡◌, ℕ, List, subst, sym}
+use Rattle.fv_signal.specs.headline.Value.{Graph, IsGraph}
+use Rattle.fv_share.specs.Drafts.{graph_of}
 use Rattle.fv_simplify_rules.specs.Rebuilt.{IsMarked, IsRebuilt}
 use Rattle.fv_simplify.specs.Passing.{room_in}
-use Rattle.fv_simplify.specs.Runs.{Pass, definitions}
-use Rattle.fv_simplify.proofs.Closes.{passed_long, can_close, all_closed, same_signals, is_rebuilt, both_ok}
+use Rattle.fv_simplify.proofs.Closes.{both_ok}
 use Rattle.fv_simplify.proofs.pass.rebuild.Goals as goal
-
-pub images_of-requires : goal.images_of-requires
-images_of-requires c =
-    let g = c.args.graph.now in
-    let long : length c.deref.result.now ≡ length g.signals =
-    ap length c.deref.ensures.value ∙ ap (λ (p : Pass). length p.images) (sym c.in_ok-images.ensures.images)
-    ∙ passed_long g c.args.marks.now (room_in c.args.rooms.now) in
-    subst (All (λ s. s < length c.deref.result.now)) (sym c.outputs.ensures.list)
-    (All-from_get_or (λ s. s < length c.deref.result.now) g.outputs 0 (λ j l. let o = c.outputs.ensures.graph.outputs j l in omega (arith, o, long)))
-
-pub definitions-requires-clause-there : goal.definitions-requires-clause-there
-definitions-requires-clause-there c =
-    let g = c.args.graph.now in
-    let long : length c.deref-2.result.now ≡ length g.signals =
-    ap length c.deref-2.ensures.value ∙ ap (λ (p : Pass). length p.images) (sym c.in_ok-images.ensures.images)
-    ∙ passed_long g c.args.marks.now (room_in c.args.rooms.now) in
-    λ k l. All-from_get_or (λ s. s < length c.deref-2.result.now) (members g k) 0
-    (λ i m. let d = c.outputs.ensures.graph.defined k i l m in omega (arith, d, long))
-
-pub close_groups-requires : goal.close_groups-requires
-close_groups-requires c =
-    let g = c.args.graph.now in
-    let widths = c.args.widths.now in
-    let p : Pass = record { draft = c.passed.new.builder; images = c.in_ok-images.images.items } in
-    let lists : lists_in c.in_ok-groups.groups.items ≡ definitions g widths p.images =
-    c.in_ok-groups.ensures ∙ ap (definitions g widths) c.deref-2.ensures.value in
-    subst (CanClose c.passed.new.builder 0) (sym lists)
-    (can_close g c.args.marks.now (room_in c.args.rooms.now) widths c.outputs.ensures.graph c.requires.good p c.in_ok-images.ensures.images
-    c.in_ok-images.ensures.there)
-
-pub finish-requires-clause-closed : goal.finish-requires-clause-closed
-finish-requires-clause-closed c =
-    let g = c.args.graph.now in
-    let widths = c.args.widths.now in
-    let p : Pass = record { draft = c.passed.new.builder; images = c.in_ok-images.images.items } in
-    let lists : lists_in c.in_ok-groups.groups.items ≡ definitions g widths p.images =
-    c.in_ok-groups.ensures ∙ ap (definitions g widths) c.deref-2.ensures.value in
-    subst AreClosed (sym (c.close_groups.ensures.all ∙ ap (with_all_members c.passed.new.builder 0) lists))
-    (all_closed g c.args.marks.now (room_in c.args.rooms.now) widths c.outputs.ensures.graph c.requires.good p c.in_ok-images.ensures.images)
-
-pub finish-requires-clause-outputs : goal.finish-requires-clause-outputs
-finish-requires-clause-outputs c =
-    let g = c.args.graph.now in
-    let widths = c.args.widths.now in
-    let room = room_in c.args.rooms.now in
-    let p : Pass = record { draft = c.passed.new.builder; images = c.in_ok-images.images.items } in
-    let lists : lists_in c.in_ok-groups.groups.items ≡ definitions g widths p.images =
-    c.in_ok-groups.ensures ∙ ap (definitions g widths) c.deref-2.ensures.value in
-    let signals : c.close_groups.new.self.signals ≡ c.passed.new.builder.signals =
-    ap (λ (d : Draft). d.signals) (c.close_groups.ensures.all ∙ ap (with_all_members c.passed.new.builder 0) lists)
-    ∙ same_signals g c.args.marks.now room widths c.outputs.ensures.graph c.requires.good p c.in_ok-images.ensures.images in
-    let outputs : c.deref-3.result.now ≡ map (λ r. get_or p.images r 0) g.outputs =
-    c.deref-3.ensures.value ∙ c.in_ok-outputs.ensures ∙ ap₂ (λ (xs os : List ℕ). map (λ r. get_or xs r 0) os) c.deref.ensures.value c.outputs.ensures.list in
-    let long : length p.images ≡ length g.signals = ap (λ (q : Pass). length q.images) (sym c.in_ok-images.ensures.images)
-    ∙ passed_long g c.args.marks.now room in
-    subst (λ (ss : List _). All (λ s. s < length ss) c.deref-3.result.now) (sym signals)
-    (subst (All (λ s. s < length c.passed.new.builder.signals)) (sym outputs)
-    (All-map (λ s. s < length c.passed.new.builder.signals) (λ r. get_or p.images r 0) g.outputs
-    (All-from_get_or (λ r. get_or p.images r 0 < length c.passed.new.builder.signals) g.outputs 0
-    (λ j l. All-get_or (λ a. a < length c.passed.new.builder.signals) p.images (get_or g.outputs j 0) 0
-    (let o = c.outputs.ensures.graph.outputs j l in omega (arith, o, long)) c.in_ok-images.ensures.there))))
 
 pub returns : goal.returns
 returns c =
-    let g = c.args.graph.now in
-    let widths = c.args.widths.now in
-    let room = room_in c.args.rooms.now in
-    let p : Pass = record { draft = c.passed.new.builder; images = c.in_ok-images.images.items } in
-    let lists : lists_in c.in_ok-groups.groups.items ≡ definitions g widths p.images =
-    c.in_ok-groups.ensures ∙ ap (definitions g widths) c.deref-2.ensures.value in
-    let draft = c.close_groups.ensures.all ∙ ap (with_all_members c.passed.new.builder 0) lists in
-    let outputs : c.deref-3.result.now ≡ map (λ r. get_or p.images r 0) g.outputs =
-    c.deref-3.ensures.value ∙ c.in_ok-outputs.ensures ∙ ap₂ (λ (xs os : List ℕ). map (λ r. get_or xs r 0) os) c.deref.ensures.value c.outputs.ensures.list in
-    both_ok c.finish.result (λ h. h ≡ graph_of c.close_groups.new.self c.deref-3.result.now) (IsGraph (graph_of c.close_groups.new.self c.deref-3.result.now))
-    (λ h. (q : ℕ → ℕ) × IsRebuilt g h q room (IsMarked c.args.marks.now))
-    (λ h e made. is_rebuilt g c.args.marks.now room widths c.outputs.ensures.graph c.requires.good p c.in_ok-images.ensures.images h
-    (e ∙ ap₂ graph_of draft outputs) (subst IsGraph (sym e) made)) c.finish.ensures.graph c.finish.ensures.whole
+    let Same : Graph → Type 0 = λ h. (q : ℕ → ℕ) × IsRebuilt c.args.graph.now h q (room_in c.args.rooms.now) (IsMarked c.args.marks.now) in
+    let of : List ℕ → Graph = λ outputs. graph_of c.fill.new.builder outputs in
+    let made = of c.deref.result.now in
+    let is_same = subst (λ outputs. IsGraph (of outputs) → Same (of outputs)) (sym c.deref.ensures.value) c.in_ok-outputs.ensures.rebuilt in
+    both_ok c.finish.result (λ h. h ≡ made) (IsGraph made) Same (λ h e is. subst Same (sym e) (is_same is)) c.finish.ensures.graph c.finish.ensures.whole

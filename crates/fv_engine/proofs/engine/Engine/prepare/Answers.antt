@@ -1,20 +1,19 @@
-use Rattle.std.proofs.Common.{List, [], length, pos, ap, sym, ◌∙◌, subst, arith}
+use Rattle.std.proofs.Common.{[], pos, sym, ◌∙◌, subst}
 use Rattle.std.proofs.lemmas.List.{length-map}
 use Rattle.fv_signal.specs.headline.Value.{value}
-use Rattle.fv_loopcode.specs.declared.step.Step.{Step}
 use Rattle.fv_split_plan.specs.headline.View.{PlanView}
 use Rattle.fv_split_plan.specs.Plans.{IsPlan}
 use Rattle.fv_split_plan.proofs.lemmas.NodeLemmas.{listed}
 use Rattle.fv_engine.proofs.Made.{begin_so}
 use Rattle.fv_engine.proofs.engine.Engine.prepare.Goals as goal
 
-pub blank_lanes-requires-clause-tables : goal.blank_lanes-requires-clause-tables
-blank_lanes-requires-clause-tables c = λ k i.
+pub engine_parts-requires-clause-tables : goal.engine_parts-requires-clause-tables
+engine_parts-requires-clause-tables c = λ k i.
     let plan = subst (λ (p : PlanView). IsPlan p) c.plan.view_is c.plan.invariant in listed _ _ (plan.1.stands.cells.there k i)
 
 pub invariant_of-result : goal.invariant_of-result
 invariant_of-result c =
-    let lanes = c.in_ok-lanes.ensures in let r = c.in_ok-runner.ensures in
+    let parts = c.in_ok-lanes.ensures in let lanes = parts.lanes in let r = parts.runner in
     let plan = subst (λ (p : PlanView). IsPlan p) c.plan.view_is c.plan.invariant in
     record {
       sizes = record {
@@ -28,13 +27,12 @@ invariant_of-result c =
       };
       shapes = lanes.shapes;
       lists = sym (length-map _ _) ∙ lanes.lists.count;
-      tasks_are = record { loops = r.tasks_are.loops; pairs = r.tasks_are.pairs; most_are = r.tasks_are.most_are ∙ c.vectors.ensures.value };
+      tasks_are = r.tasks_are;
       scratch = r.scratch;
-      held_long = let q = ap (λ (steps : List Step). length steps) c.held.ensures in
-          omega (arith, q, c.len.ensures, c.in_ok-held.ensures.len, c.in_ok-held.held.ok.0);
-      crew = c.in_ok-crew.ensures.of_plan;
+      held_long = parts.held;
+      crew = parts.crew;
       some_worker = c.requires.workers.0;
-      as_many = c.in_ok-crew.ensures.as_many;
+      as_many = parts.as_many;
       standing = record {
         graph = plan.0;
         plan = plan.1;
@@ -49,6 +47,6 @@ invariant_of-result c =
 
 pub returns-clause-stands : goal.returns-clause-stands
 returns-clause-stands c = λ g s d. record {
-  histories = λ l i. c.in_ok-lanes.ensures.blank l i (value g (s.names.lane l) [] d);
-  cells = begin_so s d c.in_ok-lanes.ensures.lists;
+  histories = λ l i. c.in_ok-lanes.ensures.lanes.blank l i (value g (s.names.lane l) [] d);
+  cells = begin_so s d c.in_ok-lanes.ensures.lanes.lists;
 }
