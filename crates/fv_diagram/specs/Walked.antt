@@ -1,8 +1,8 @@
 -- What the walk over a diagram makes of it: one function on trees (this project's profile).
 use Rattle.std.specs.Prelude.{ℕ, suc, ◌%◌, false, List, [], ◌∷◌, ◌++◌, length, take, drop, get_or, slice_set, ℤ, pos}
 use Rattle.fv_num.specs.declared.op.Op.TheVariants.{Add}
-use Rattle.fv_diagram.specs.declared.node.Primitive.{Primitive as Prim}
-use Rattle.fv_diagram.specs.declared.node.Primitive.TheVariants.{Wire, Cut, Mem, Prefix, Delay, Int, Attach, Point, ReadTable, WriteTable}
+use Rattle.fv_num.specs.declared.primitive.Primitive.{Primitive as Prim}
+use Rattle.fv_num.specs.declared.primitive.Primitive.TheVariants.{Wire, Cut, Mem, Prefix, Delay, Int, Attach, Point, ReadTable, WriteTable}
 use Rattle.fv_diagram.specs.headline.Diagram.{Diagram, Primitive, Constant, Control, Slot, Wave, Table, Bind, Par, Seq, Split, Merge, Rec, inputs}
 use Rattle.fv_diagram.specs.headline.Streams.{dealt}
 use Rattle.fv_diagram.specs.Wires.{plugged}

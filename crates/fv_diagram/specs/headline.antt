@@ -1,4 +1,3 @@
 pub mod Diagram
 pub mod Streams
-pub mod Arena
 pub mod Samples

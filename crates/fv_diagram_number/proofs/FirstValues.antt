@@ -5,8 +5,8 @@ use Rattle.std.proofs.lemmas.List.{length-append}
 use Rattle.fv_base.proofs.lemmas.Lists.{length_table}
 use Rattle.fv_num.specs.headline.Words.{argument}
 use Rattle.fv_num.specs.headline.Frames.{Frame}
-use Rattle.fv_diagram.specs.declared.node.Primitive.{Primitive as Prim}
-use Rattle.fv_diagram.specs.declared.node.Primitive.TheVariants.{Wire, Cut, Mem, Prefix, Delay, Int, Attach, Point, ReadTable, WriteTable}
+use Rattle.fv_diagram.specs.Primitive.{Primitive as Prim}
+use Rattle.fv_diagram.specs.Primitive.TheVariants.{Wire, Cut, Mem, Prefix, Delay, Int, Attach, Point, ReadTable, WriteTable}
 use Rattle.fv_diagram.specs.headline.Diagram.{Diagram, Primitive, Constant, Control, Slot, Wave, Table, Bind}
 use Rattle.fv_diagram.specs.headline.Diagram.{Par, Seq, Split, Merge, Rec, inputs, outputs, primitive_outputs}
 use Rattle.fv_diagram.specs.headline.Streams.{Stream, run, last, beside, dealt, merged, primitive_at}

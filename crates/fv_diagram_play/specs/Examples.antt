@@ -1,6 +1,6 @@
 -- Small runs, which hold by computing.
 use Rattle.std.specs.Prelude.{◌≡◌, refl, [], ◌∷◌, pos}
-use Rattle.fv_diagram.specs.declared.node.Primitive.TheVariants.{Wire, Mem}
+use Rattle.fv_diagram.specs.Primitive.TheVariants.{Wire, Mem}
 use Rattle.fv_diagram.specs.headline.Diagram.{Primitive, Control, Par}
 use Rattle.fv_control.specs.headline.Streams.{control_streams}
 use Rattle.fv_diagram.specs.headline.Samples.{answer_on}

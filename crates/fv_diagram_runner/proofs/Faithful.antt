@@ -17,8 +17,8 @@ use Rattle.fv_diagram_runner.specs.declared.step.Step.TheVariants as step
 use Rattle.fv_diagram_runner.specs.declared.draft.Loop.{Loop}
 use Rattle.fv_diagram.specs.declared.signals.Leaf.{Leaf}
 use Rattle.fv_diagram.specs.declared.signals.Leaf.TheVariants as leaf
-use Rattle.fv_diagram.specs.declared.node.Primitive.{Primitive as Prim}
-use Rattle.fv_diagram.specs.declared.node.Primitive.TheVariants as prim
+use Rattle.fv_diagram.specs.Primitive.{Primitive as Prim}
+use Rattle.fv_diagram.specs.Primitive.TheVariants as prim
 use Rattle.fv_num.specs.headline.Tables.{place, read_at, written_at as table_written_at}
 use Rattle.fv_num.proofs.lemmas.Tables.{last_written_same}
 use Rattle.std.proofs.lemmas.Bool.{true≢false}

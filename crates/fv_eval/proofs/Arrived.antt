@@ -4,7 +4,7 @@ use Rattle.std.specs.declared.alloc.Global.{Global}
 use Rattle.std.proofs.lemmas.List.{length_push, same_from_push}
 use Rattle.fv_parse_grammar.specs.headline.Tree.{Tree, items, start_of}
 use Rattle.fv_parse_grammar.specs.headline.Tree as tree
-use Rattle.fv_parse_grammar.specs.declared.form.Slider.{Slider as SliderKind}
+use Rattle.fv_parse_grammar.specs.Slider.{Slider as SliderKind}
 use Rattle.fv_parse.specs.Trees.{Parsed}
 use Rattle.fv_diagram.specs.declared.control.ControlKind.{ControlKind}
 use Rattle.fv_rules.specs.declared.refusal.EvalRefusal.{EvalRefusal}

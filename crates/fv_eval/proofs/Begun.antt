@@ -4,7 +4,7 @@ use Rattle.std.specs.Prelude.{ℤ}
 use Rattle.fv_parse.specs.Token.{Lexed}
 use Rattle.fv_parse_grammar.specs.headline.Tree.{Tree, items, start_of, End}
 use Rattle.fv_parse_grammar.specs.headline.Tree as tree
-use Rattle.fv_parse_grammar.specs.declared.form.Slider.{Slider as SliderKind}
+use Rattle.fv_parse_grammar.specs.Slider.{Slider as SliderKind}
 use Rattle.fv_parse.specs.Arena.{forest, trees}
 use Rattle.fv_parse.specs.TreeId.{TreeId}
 use Rattle.fv_parse.specs.headline.Trees.{text_of, label_of}

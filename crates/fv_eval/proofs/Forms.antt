@@ -5,8 +5,8 @@ use Rattle.std.proofs.lemmas.Option.{none-some}
 use Rattle.fv_parse_grammar.specs.headline.Tree.{Tree, End}
 use Rattle.fv_parse_grammar.specs.headline.Tree as tree
 use Rattle.fv_parse_grammar.specs.declared.form.Operator.{Operator}
-use Rattle.fv_parse_grammar.specs.declared.form.Iteration.{Iteration as Repetition}
-use Rattle.fv_parse_grammar.specs.declared.form.Slider.{Slider as SliderKind}
+use Rattle.fv_parse_grammar.specs.Iteration.{Iteration as Repetition}
+use Rattle.fv_parse_grammar.specs.Slider.{Slider as SliderKind}
 use Rattle.fv_parse.specs.TreeId.{TreeId}
 use Rattle.fv_parse.specs.TreeNode.{TreeNode}
 use Rattle.fv_parse.specs.TreeNode.TheVariants as nodes

@@ -3,8 +3,8 @@ use Rattle.std.proofs.Common.{◌≡◌, ℕ, ◌<◌, List, [], ◌∷◌, leng
 use Rattle.std.proofs.lemmas.List.Elements.{All-head, All-tail, All-cons, All-nil}
 use Rattle.fv_parse_grammar.specs.headline.Tree.{Tree}
 use Rattle.fv_parse_grammar.specs.headline.Tree as tree
-use Rattle.fv_parse_grammar.specs.declared.form.Slider.{Slider as SliderKind}
-use Rattle.fv_parse_grammar.specs.declared.form.Iteration.{Iteration as Repetition}
+use Rattle.fv_parse_grammar.specs.Slider.{Slider as SliderKind}
+use Rattle.fv_parse_grammar.specs.Iteration.{Iteration as Repetition}
 use Rattle.fv_parse.specs.headline.Trees.{text_of, label_of}
 use Rattle.fv_parse.specs.Trees.{Parsed}
 use Rattle.fv_diagram.specs.headline.Diagram.{Diagram}

@@ -5,7 +5,7 @@ use lib.Signed.{lt_z}
 use Rattle.std.proofs.lemmas.List.Elements.{All-nil}
 use Rattle.fv_parse_grammar.specs.headline.Tree.{Tree, start_of}
 use Rattle.fv_parse_grammar.specs.headline.Tree as tree
-use Rattle.fv_parse_grammar.specs.declared.form.Iteration.{Iteration as Repetition}
+use Rattle.fv_parse_grammar.specs.Iteration.{Iteration as Repetition}
 use Rattle.fv_parse.specs.headline.Trees.{text_of}
 use Rattle.fv_parse.specs.Trees.{Parsed, first_named, size_of, tree_in}
 use Rattle.fv_diagram.specs.headline.Diagram.{Diagram, Constant}

@@ -6,7 +6,7 @@ use Rattle.fv_parse.specs.TreeId.{TreeId}
 use Rattle.fv_parse.specs.TreeNode.{TreeNode}
 use Rattle.fv_parse.specs.TreeNode.TheVariants as nodes
 use Rattle.fv_parse.specs.Arena.{tree_of, forest}
-use Rattle.fv_parse_grammar.specs.declared.form.Slider.{Slider as SliderKind}
+use Rattle.fv_parse_grammar.specs.Slider.{Slider as SliderKind}
 use Rattle.fv_parse_grammar.specs.headline.Tree.{Tree, End}
 use Rattle.fv_eval_scopes.specs.Shows.{body_in, parameters_in}
 use Rattle.fv_eval.specs.inner.Continuations.{name_of, parameters_of}

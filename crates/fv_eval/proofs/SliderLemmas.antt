@@ -4,7 +4,7 @@ use Rattle.std.specs.Prelude.{ℤ, slice_get}
 use Rattle.std.proofs.lemmas.List.{length_push}
 use Rattle.fv_parse_grammar.specs.headline.Tree.{Tree, start_of}
 use Rattle.fv_parse_grammar.specs.headline.Tree as tree
-use Rattle.fv_parse_grammar.specs.declared.form.Slider.{Slider as SliderKind}
+use Rattle.fv_parse_grammar.specs.Slider.{Slider as SliderKind}
 use Rattle.fv_parse.specs.headline.Trees.{label_of}
 use Rattle.fv_parse.specs.Trees.{Parsed, tree_in}
 use Rattle.fv_diagram.specs.Arena.{tree_of}

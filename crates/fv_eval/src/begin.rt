@@ -2,7 +2,7 @@
 
 ghost use Rattle.std.specs.Prelude.{ℕ, ◌≡◌, ◌<◌, ◌≤◌, List, [], ◌∷◌, length, map};
 ghost use Rattle.fv_parse_grammar.specs.headline.Tree.{Tree};
-ghost use Rattle.fv_parse_grammar.specs.declared.form.Slider.{Slider as SliderKind};
+ghost use Rattle.fv_parse_grammar.specs.Slider.{Slider as SliderKind};
 ghost use Rattle.fv_parse.specs.Trees.{Parsed, size_of, tree_in};
 ghost use Rattle.fv_diagram.specs.headline.Diagram.{Constant, Primitive as Leaf};
 ghost use Rattle.fv_rules.specs.headline.Values.{Env, Flat, Name};
@@ -19,7 +19,6 @@ use crate::names::canonical;
 use crate::turn::not_a_diagram;
 use fv_diagram::{Node, Prim};
 use fv_eval_choosing::Definitions;
-use fv_eval_drawing::primitive_of;
 use fv_eval_scopes::{Ruled, Value};
 use fv_parse::{TreeId, TreeNode};
 use fv_parse_grammar::Literal;
@@ -92,9 +91,7 @@ impl Machine {
         match tree.node(id) {
             TreeNode::Number(n) => self.constant(literal(*n)),
             TreeNode::Negative(n) => self.constant(negative_literal(*n)),
-            TreeNode::Wire => self.primitive(Prim::Wire),
-            TreeNode::Cut => self.primitive(Prim::Cut),
-            TreeNode::Primitive(p) => self.primitive(primitive_of(*p)),
+            TreeNode::Primitive(p) => self.primitive(*p),
             TreeNode::Named(n) => self.name(text, canonical(tree, *n), env),
             TreeNode::MinusNamed(n) => self.negated(canonical(tree, *n), env),
             TreeNode::Group(x) => Ok(Focus::Visit { id: *x, env }),

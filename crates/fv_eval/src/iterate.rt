@@ -2,7 +2,7 @@
 
 ghost use Rattle.std.specs.Prelude.{ℕ, ◌≡◌, ◌<◌, List, length};
 ghost use Rattle.fv_parse_grammar.specs.headline.Tree.{Tree as Spelled, Iteration, start_of};
-ghost use Rattle.fv_parse_grammar.specs.declared.form.Iteration.{Iteration as Repetition};
+ghost use Rattle.fv_parse_grammar.specs.Iteration.{Iteration as Repetition};
 ghost use Rattle.fv_parse.specs.headline.Trees.{text_of};
 ghost use Rattle.fv_parse.specs.Trees.{size_of, tree_in};
 ghost use Rattle.fv_diagram.specs.headline.Diagram.{Diagram};

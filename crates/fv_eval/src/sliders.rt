@@ -2,7 +2,7 @@
 
 ghost use Rattle.std.specs.Prelude.{ℕ, ◌≡◌, ◌<◌, ◌≤◌, ◌∷◌, List, IfOk, IfSome, length, option_map, slice_get};
 ghost use Rattle.fv_parse_grammar.specs.headline.Tree.{Tree as Spelled, Slider as SliderTree, start_of};
-ghost use Rattle.fv_parse_grammar.specs.declared.form.Slider.{Slider as SliderKind};
+ghost use Rattle.fv_parse_grammar.specs.Slider.{Slider as SliderKind};
 ghost use Rattle.fv_parse.specs.headline.Trees.{label_of};
 ghost use Rattle.fv_parse.specs.Trees.{Parsed, size_of, tree_in};
 ghost use Rattle.fv_rules.specs.headline.Values.{Env, Value as Meant};

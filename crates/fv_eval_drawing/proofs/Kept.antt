@@ -1,7 +1,7 @@
 -- What stays true in the loops: what is left around what is put is the whole.
 use Rattle.std.proofs.Common.{◌<◌, ◌≤◌, ◌++◌, ◌∷◌, [], ℕ, List}
 use Rattle.fv_num.specs.declared.op.Op.{Op}
-use Rattle.fv_diagram.specs.declared.node.Primitive.TheVariants as prim
+use Rattle.fv_diagram.specs.Primitive.TheVariants as prim
 use Rattle.fv_diagram.specs.Arena.{count_of, tree_of}
 use Rattle.fv_rules.specs.headline.Rules.{bind_all, from_left}
 use Rattle.fv_eval_drawing.specs.declared.lists.Link.{Link}

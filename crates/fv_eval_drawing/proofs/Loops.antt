@@ -3,7 +3,7 @@ use Rattle.std.proofs.Common.{◌≡◌, ℕ, suc, ◌+◌, ◌-◌, ◌<◌, Li
 use Rattle.std.proofs.lemmas.List.{map-append, get_or_append_left, get_or_push, length_push}
 use Rattle.std.proofs.lemmas.List.Elements.{All-head}
 use Rattle.fv_num.specs.declared.op.Op.{Op}
-use Rattle.fv_diagram.specs.declared.node.Primitive.TheVariants as prim
+use Rattle.fv_diagram.specs.Primitive.TheVariants as prim
 use Rattle.fv_diagram.specs.headline.Diagram.{Diagram, Bind}
 use Rattle.fv_diagram.specs.Arena.{count_of, tree_of}
 use Rattle.fv_rules.specs.declared.refusal.EvalRefusal.{EvalRefusal}

@@ -1,6 +1,6 @@
 -- An operation on two parts.
 use Rattle.std.proofs.Common.{inl, inr, ◌≡◌, ℕ, ◌<◌, Result, Ok, Err, ap, ap₂, subst, ◌∙◌}
-use Rattle.fv_diagram.specs.declared.node.Primitive.{Primitive as Prim}
+use Rattle.fv_diagram.specs.Primitive.{Primitive as Prim}
 use Rattle.fv_diagram.specs.headline.Diagram.{Diagram, Primitive, Par, Seq}
 use Rattle.fv_diagram.specs.Arena.{count_of, tree_of}
 use Rattle.fv_rules.specs.declared.refusal.EvalRefusal.{EvalRefusal}

@@ -9,7 +9,6 @@ use Rattle.fv_num.specs.headline.Words.{argument}
 use Rattle.fv_rules.specs.ArityKind.TheVariants as kind
 use Rattle.fv_diagram.specs.declared.node.Node.TheVariants as node
 use Rattle.fv_diagram.specs.headline.Diagram.{Diagram, Par, Seq, Table, outputs, size, table_inputs}
-use Rattle.fv_diagram.specs.headline.Arena.{size_limit}
 use Rattle.fv_diagram.specs.Arena.{Arena, count_of, list_at, tree_of, tree_with}
 use Rattle.fv_diagram_head.specs.Numbers.{at_first}
 use Rattle.fv_diagram_head.specs.headline.Heads.{all_outputs, cut, is_fixed, is_head, parts, table_numbers}
@@ -29,6 +28,7 @@ use Rattle.fv_eval_drawing.specs.inner.Tables.{GrowsBy}
 use Rattle.fv_eval_drawing.proofs.Evals.{given_then, refused_then}
 use Rattle.fv_eval_drawing.proofs.Arenas.{trees_stay}
 use Rattle.fv_eval_drawing.proofs.Leaves.{makes_of, puts_makes}
+use Rattle.fv_base.specs.declared.limits.TheConstants.{SIZE_LIMIT}
 
 -- side by side is from the right
 beside : (d : Diagram) (ds : List Diagram) (s : State) → side_by_side d ds s ≡ from_right Par d ds s
@@ -170,7 +170,7 @@ SidesOf ds (Err r) = Unit {0}
 
 one_more : (d : Diagram) (ds : List Diagram) (o : Outcome Diagram) → SidesOf ds o → SidesOf (d ∷ ds) (after o (λ r. sized (Par d r)))
 one_more d ds (Err r) h = tt
-one_more d ds (Ok x) h = by (nat_le (size (Par d x.0)) size_limit)
+one_more d ds (Ok x) h = by (nat_le (size (Par d x.0)) SIZE_LIMIT)
   where
     both : Sides (d ∷ ds) (Par d x.0)
     both = record {

@@ -1,7 +1,7 @@
 -- Compositions of whole lists of diagrams.
 use Rattle.std.specs.Prelude.{◌≡◌, ℕ, ◌-◌, ◌&&◌, nat_eq, List, [], ◌∷◌, ◌++◌, pos, if◌then◌else◌}
 use Rattle.fv_num.specs.declared.op.Op.{Op}
-use Rattle.fv_diagram.specs.declared.node.Primitive.TheVariants as prim
+use Rattle.fv_diagram.specs.Primitive.TheVariants as prim
 use Rattle.fv_diagram.specs.headline.Diagram.{Diagram, Primitive, Par, Seq, inputs}
 use Rattle.fv_rules.specs.declared.refusal.EvalRefusal.TheVariants.{IterationCount}
 use Rattle.fv_rules.specs.headline.Steps.{Eval, refuse}

@@ -1,7 +1,6 @@
 // The diagrams of an evaluation.
 
 ghost use Rattle.std.specs.Prelude.{◌≡◌, ◌*◌, ◌<◌, ◌≤◌, All, IfOk, List, length};
-ghost use Rattle.fv_diagram.specs.headline.Arena.{size_limit};
 ghost use Rattle.fv_diagram.specs.Arena.{ChildrenBelow, NamesLists, IsArity, count_of, empty_arena, tree_of, tree_with};
 ghost use Rattle.fv_diagram.specs.headline.Diagram.{has_table_primitive};
 ghost use Rattle.fv_diagram_head.specs.Numbers.{number_of};
@@ -14,6 +13,7 @@ ghost use Rattle.fv_eval_patterns.specs.Trials.{Recalls};
 ghost use Rattle.fv_rules.specs.headline.Steps.{put};
 ghost use Rattle.fv_rules.specs.Puts.{Puts};
 ghost use Rattle.fv_eval_drawing.specs.Makes.{AddsDiagrams, AreComposed, Draws, Extends, IsLeaf, IsThere, Makes};
+ghost use Rattle.fv_base.specs.declared.limits.TheConstants.{SIZE_LIMIT};
 
 use fv_base::limits::MOST_DIAGRAMS;
 use fv_diagram::{Arity, DiagramId, Diagrams, Node};
@@ -128,8 +128,8 @@ impl Drawing {
     pub fn arity(&self, id: DiagramId) -> Arity
         requires { id < count_of self.now.diagrams }
         ensures arity { IsArity (tree_of self.now.diagrams id) result }
-        ensures inputs { result.inputs ≤ 5 * size_limit }
-        ensures outputs { result.outputs ≤ 2 * size_limit }
+        ensures inputs { result.inputs ≤ 5 * SIZE_LIMIT }
+        ensures outputs { result.outputs ≤ 2 * SIZE_LIMIT }
     {
         self.diagrams.arity(id)
     }

@@ -10,4 +10,3 @@ mod tables;
 
 pub use diagrams::Drawing;
 pub use lists::Link;
-pub use pairs::primitive_of;

@@ -1,7 +1,7 @@
 // Compositions of lists.
 
 ghost use Rattle.std.specs.Prelude.{◌≡◌, ◌<◌};
-ghost use Rattle.fv_diagram.specs.declared.node.Primitive.TheVariants as prim;
+ghost use Rattle.fv_diagram.specs.Primitive.TheVariants as prim;
 ghost use Rattle.fv_diagram.specs.Arena.{count_of, tree_of};
 ghost use Rattle.fv_rules.specs.headline.Steps.{put};
 ghost use Rattle.fv_rules.specs.headline.Rules.{from_left, gathered};

@@ -1,55 +1,19 @@
 // Compositions of two parts, and binds.
 
 ghost use Rattle.std.specs.Prelude.{ℕ, ◌≡◌, ◌+◌, ◌<◌, ◌^◌, pos};
-ghost use Rattle.fv_diagram.specs.declared.node.Primitive.TheVariants as prim;
+ghost use Rattle.fv_diagram.specs.Primitive.TheVariants as prim;
 ghost use Rattle.fv_diagram.specs.headline.Diagram.{Constant, Primitive as Leaf, Seq};
 ghost use Rattle.fv_diagram.specs.Arena.{count_of, tree_of};
 ghost use Rattle.fv_num.specs.declared.op.Op.TheVariants as op;
 ghost use Rattle.fv_rules.specs.headline.Steps.{put};
-ghost use Rattle.fv_rules.specs.headline.Rules.{bind_all, joined, operated, primitive_of};
+ghost use Rattle.fv_rules.specs.headline.Rules.{bind_all, joined, operated};
 ghost use Rattle.fv_eval_drawing.specs.Makes.{Extends, Makes};
 
 use crate::diagrams::Drawing;
 use fv_diagram::{DiagramId, Node, Prim};
 use fv_num::Op;
-use fv_parse_grammar::{Operator, Primitive};
+use fv_parse_grammar::Operator;
 use fv_rules::EvalRefusal;
-
-/// The diagrams' primitive that a primitive of the grammar is.
-pub fn primitive_of(primitive: Primitive) -> Prim
-    ensures { result ≡ primitive_of primitive }
-{
-    match primitive {
-        Primitive::Mem => Prim::Mem,
-        Primitive::Prefix => Prim::Prefix,
-        Primitive::Int => Prim::Int,
-        Primitive::Attach => Prim::Attach,
-        Primitive::Delay => Prim::Delay,
-        Primitive::Add => Prim::Point(Op::Add),
-        Primitive::Subtract => Prim::Point(Op::Sub),
-        Primitive::Multiply => Prim::Point(Op::Mul),
-        Primitive::Divide => Prim::Point(Op::Div),
-        Primitive::Remainder => Prim::Point(Op::Rem),
-        Primitive::And => Prim::Point(Op::And),
-        Primitive::Or => Prim::Point(Op::Or),
-        Primitive::Xor => Prim::Point(Op::Xor),
-        Primitive::ShiftLeft => Prim::Point(Op::Shl),
-        Primitive::ShiftRight => Prim::Point(Op::Shr),
-        Primitive::Less => Prim::Point(Op::Lt),
-        Primitive::LessEqual => Prim::Point(Op::Le),
-        Primitive::Greater => Prim::Point(Op::Gt),
-        Primitive::GreaterEqual => Prim::Point(Op::Ge),
-        Primitive::Equal => Prim::Point(Op::Eq),
-        Primitive::NotEqual => Prim::Point(Op::Ne),
-        Primitive::Min => Prim::Point(Op::Min),
-        Primitive::Max => Prim::Point(Op::Max),
-        Primitive::Abs => Prim::Point(Op::Abs),
-        Primitive::Select2 => Prim::Point(Op::Select2),
-        Primitive::Select3 => Prim::Point(Op::Select3),
-        Primitive::ReadTable => Prim::ReadTable,
-        Primitive::WriteTable => Prim::WriteTable,
-    }
-}
 
 impl Drawing {
     /// An operation on two parts: `a op b` is `a,b : op`.
@@ -87,7 +51,7 @@ impl Drawing {
         ensures keeps { Extends self.old self.new }
     {
         match operator {
-            Operator::Infix(p) => self.operate(primitive_of(p), left, right),
+            Operator::Infix(p) => self.operate(p, left, right),
             Operator::Recursion => self.put(&Node::Rec { left, right }),
             Operator::Parallel => self.put(&Node::Par { left, right }),
             Operator::Sequence => self.put(&Node::Seq { left, right }),

@@ -3,7 +3,6 @@
 ghost use Rattle.std.specs.Prelude.{◌≡◌, ◌+◌, ◌<◌, ◌≤◌, length, true, IfOk};
 ghost use Rattle.fv_num.specs.headline.Words.{argument};
 ghost use Rattle.fv_diagram.specs.headline.Diagram.{Primitive as Leaf, Seq, Table, outputs, size as size_of, table_inputs};
-ghost use Rattle.fv_diagram.specs.headline.Arena.{size_limit};
 ghost use Rattle.fv_diagram.specs.Arena.{ChildrenBelow, count_of, list_at, tree_of, tree_with};
 ghost use Rattle.fv_diagram_head.specs.Numbers.{at_first};
 ghost use Rattle.fv_diagram_head.specs.headline.Heads.{all_outputs, cut, is_fixed, is_head, parts, table_numbers};
@@ -12,6 +11,7 @@ ghost use Rattle.fv_eval_drawing.specs.declared.lists.Link.TheVariants as link;
 ghost use Rattle.fv_eval_drawing.specs.Lists.{all_from_right, linked};
 ghost use Rattle.fv_eval_drawing.specs.Makes.{AddsDiagrams, AreThere, Extends, Makes, trees_of};
 ghost use Rattle.fv_eval_drawing.specs.inner.Tables.{GrowsBy, PutsTable, as_table, table_primitive, writes_of};
+ghost use Rattle.fv_base.specs.declared.limits.TheConstants.{SIZE_LIMIT};
 
 use crate::diagrams::Drawing;
 use fv_base::limits::TABLE_LIMIT;
@@ -221,7 +221,7 @@ impl Drawing {
     fn size(&self, id: DiagramId) -> u32
         requires { id < count_of self.now.diagrams }
         ensures size { result ≡ size_of (tree_of self.now.diagrams id) }
-        ensures within { result ≤ size_limit }
+        ensures within { result ≤ SIZE_LIMIT }
     {
         self.diagrams.size(id)
     }

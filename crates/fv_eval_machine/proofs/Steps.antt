@@ -97,8 +97,6 @@ module _ (value : FollowsValue) (diagram : FollowsDiagram) where
       → meaning l (begin l x env fs t) ≡ (rule l (ev l) x env >>= unwound l (ev l) fs) t
   begin_means l (tree.Number s n) env fs t = refl
   begin_means l (tree.Negative s n) env fs t = refl
-  begin_means l (tree.Wire s) env fs t = refl
-  begin_means l (tree.Cut s) env fs t = refl
   begin_means l (tree.Primitive s p) env fs t = refl
   begin_means l (tree.Named s n) env fs t = name_means l (text_of l n) (lookup l env (text_of l n)) fs t
   begin_means l (tree.MinusNamed s n) env fs t =

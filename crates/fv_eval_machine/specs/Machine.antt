@@ -19,7 +19,7 @@ use Rattle.fv_rules.specs.headline.Values.{Parameters, Cases, Meaning, IsValue, 
 use Rattle.fv_rules.specs.Numbers.{number_of}
 use Rattle.fv_rules.specs.headline.Matching.{Bindings, settled, value_number, bound_in, chosen}
 use Rattle.fv_rules.specs.headline.Steps.{State, Outcome, Eval, ◌>>=◌, give, no_rule, no_diagram, spent, put, control}
-use Rattle.fv_rules.specs.headline.Rules.{waveform, primitive_of, switch_kind, slider_kind, Evaluator, flat, on_slots, bind_all}
+use Rattle.fv_rules.specs.headline.Rules.{waveform, switch_kind, slider_kind, Evaluator, flat, on_slots, bind_all}
 use Rattle.fv_rules.specs.headline.Rules.{turned, operated, joined, name_value, arguments, all_turned, fed, width, applied}
 use Rattle.fv_rules.specs.headline.Rules.{bodies, gathered, counted, ports, read_number, parameters, slider_info, switch_info, ev}
 
@@ -130,9 +130,7 @@ next_parameter kind label (x ∷ more) env done fs s = Running (Visit x env) (Va
 abbrev pub begin : Lexed → Tree → Env → List Continuation → State → Config
 begin l (tree.Number s n) env fs t = Running (Give (Flat (Constant (wrap (pos n))))) fs t
 begin l (tree.Negative s n) env fs t = Running (Give (Flat (Constant (wrap (neg_ℤ (pos n)))))) fs t
-begin l (tree.Wire s) env fs t = Running (Give (Flat (Primitive prim.Wire))) fs t
-begin l (tree.Cut s) env fs t = Running (Give (Flat (Primitive prim.Cut))) fs t
-begin l (tree.Primitive s p) env fs t = Running (Give (Flat (Primitive (primitive_of p)))) fs t
+begin l (tree.Primitive s p) env fs t = Running (Give (Flat (Primitive p))) fs t
 begin l (tree.Named s n) env fs t = begin_name (text_of l n) (lookup l env (text_of l n)) fs t
 begin l (tree.MinusNamed s n) env fs t = Running (Call (text_of l n) env) (Drawn Negated ∷ fs) t
 begin l (tree.Group s x) env fs t = Running (Visit x env) fs t

@@ -10,8 +10,8 @@ use Rattle.fv_num.specs.declared.op.Op.TheVariants.{Add}
 use Rattle.fv_num.specs.headline.Frames.{table}
 use Rattle.fv_num.specs.headline.Interval.{Interval, full, point}
 use Rattle.fv_num.specs.headline.Spans.{span_of}
-use Rattle.fv_diagram.specs.declared.node.Primitive.{Primitive as Prim}
-use Rattle.fv_diagram.specs.declared.node.Primitive.TheVariants as prim
+use Rattle.fv_diagram.specs.Primitive.{Primitive as Prim}
+use Rattle.fv_diagram.specs.Primitive.TheVariants as prim
 use Rattle.fv_diagram.specs.headline.Diagram.{Diagram, Primitive, Constant, Control, Slot, Wave, Table, Bind, Par, Seq, Split, Merge, Rec, inputs, outputs}
 use Rattle.fv_diagram.specs.headline.Diagram.{primitive_inputs, is_table_primitive}
 use Rattle.fv_diagram.specs.Diagram.{IsWellFormed}

@@ -2,7 +2,7 @@
 use Rattle.std.specs.Prelude.{◌≡◌, ℕ, ◌<◌, List, [], ◌∷◌, ◌++◌, length, map, take, drop, pos, All}
 use Rattle.fv_num.specs.headline.Frames.{Frame, Stream, table}
 use Rattle.fv_num.specs.headline.Interval.{Interval, IsWithin, full, point, span_at}
-use Rattle.fv_diagram.specs.declared.node.Primitive.TheVariants.{Delay}
+use Rattle.fv_diagram.specs.Primitive.TheVariants.{Delay}
 use Rattle.fv_diagram.specs.headline.Diagram.{Diagram, Primitive, Constant, Control, Slot, Wave, Table, Bind, Par, Seq, Split, Merge, Rec, inputs}
 use Rattle.fv_diagram.specs.Diagram.{IsWellFormed, HasNumbers}
 use Rattle.fv_diagram.specs.headline.Streams.{column, beside, dealt, merged, bound, run}

@@ -8,9 +8,9 @@ ghost use Rattle.fv_diagram.specs.Arena.{count_of, tree_of};
 ghost use Rattle.fv_interval.specs.headline.Delays.{delays_of, amounts, amount};
 ghost use Rattle.fv_interval.specs.Delays.{IsDelay, AreDelays, AreAccepted, IsSpanRefused, IsDelayRefusal};
 ghost use Rattle.fv_interval.specs.inner.Delays.{IsRefused};
-ghost use Rattle.fv_interval.specs.headline.Delays.{delay_limit};
 ghost use Rattle.fv_interval.specs.inner.Delays.{most_delays};
 ghost use Rattle.fv_interval.specs.Laws.{AnswersHold, AllDelaysHold};
+ghost use Rattle.fv_base.specs.declared.limits.TheConstants.{DELAY_LIMIT};
 
 use crate::refusal::DelayRefusal;
 use crate::walked::{Walked, full_spans};
@@ -127,7 +127,7 @@ fn listed(alloc: Global, spans: &[Span]) -> Result<Delays, DelayRefusal>
 
 // The greatest number of a span, where it is no refused delay.
 fn delay_of(span: Span) -> Result<u32, DelayRefusal>
-    ensures ok { IfOk result (λ n. IsDelay span × (n ≡ amount span) × (n ≤ delay_limit)) }
+    ensures ok { IfOk result (λ n. IsDelay span × (n ≡ amount span) × (n ≤ DELAY_LIMIT)) }
     ensures refused { IfErr result (IsSpanRefused span) }
 {
     if span.lo < 0 {

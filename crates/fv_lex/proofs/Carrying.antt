@@ -9,10 +9,11 @@ use Rattle.std.proofs.lemmas.List.{append-nil}
 use Rattle.fv_lex.specs.declared.token.Kind.{Kind}
 use Rattle.fv_lex.specs.declared.token.Kind.TheVariants as kinds
 use Rattle.fv_lex.specs.declared.token.Symbol.{Symbol}
-use Rattle.fv_lex.specs.declared.token.Symbol.TheVariants.{Name, Text, Integer, Unsupported, Merge, NotEqual}
+use Rattle.fv_lex.specs.declared.token.Symbol.TheVariants.{Name, Text, Integer, Unsupported, Merge}
 use Rattle.fv_lex.specs.declared.token.Span.{Span}
 use Rattle.fv_lex.specs.headline.Symbols.{at_byte, at_word, singles, after_less, after_greater, after_equals, double}
-use Rattle.fv_lex.specs.headline.Symbols.{primitive_words, form_words, control_words, is_unsupported, symbol_of}
+use Rattle.fv_num.specs.declared.op.Op.TheVariants as ops
+use Rattle.fv_lex.specs.headline.Symbols.{operation, primitive_words, form_words, control_words, is_unsupported, symbol_of}
 use Rattle.fv_lex.specs.Spans.{new_symbols, HasSymbol}
 use Rattle.fv_lex.specs.Carried.{Carries, AllCarry}
 
@@ -54,7 +55,7 @@ double_carries i b c other h =
     (λ _. cond_both (nat_eq b 62) _ _ Q (λ _. byte_carries i after_greater c other refl h)
     (λ _. cond_both (nat_eq b 61) _ _ Q (λ _. byte_carries i after_equals c other refl h)
     (λ _. cond_both (nat_eq b 58) _ _ Q (λ _. byte_carries i ((62, Merge) ∷ []) c other refl h)
-    (λ _. cond_both (nat_eq b 33) _ _ Q (λ _. byte_carries i ((61, NotEqual) ∷ []) c other refl h) (λ _. h)))))
+    (λ _. cond_both (nat_eq b 33) _ _ Q (λ _. byte_carries i ((61, operation ops.Ne) ∷ []) c other refl h) (λ _. h)))))
 
 symbol_carries : (i : ℕ) (kind : Kind) (bytes : List ℕ) → HasSymbol (Some kind) bytes → Carries i (symbol_of i kind bytes)
 symbol_carries i kinds.Name bytes h =

@@ -16,12 +16,13 @@ use Rattle.fv_lex.specs.declared.next.Next.TheVariants.{Found, Refused}
 use Rattle.fv_lex.specs.headline.Bytes.{is_blank, is_letter, is_digit, is_underscore, is_name_byte, is_quote, is_in_line, begins}
 use Rattle.fv_lex.specs.headline.Symbols.{at_byte, singles, double, value}
 use Rattle.fv_lex.specs.headline.Pieces.{is_name, is_integer, is_nothing, closes, is_token, IsLongest, BeginsNoToken, is_real_tail, BeginsReal, fraction}
-use Rattle.fv_lex.specs.headline.Pieces.{real, begins_comment, ends_line, has_close, greatest_literal, IsPiece, blank_byte, line_comment, block_comment}
+use Rattle.fv_lex.specs.headline.Pieces.{real, begins_comment, ends_line, has_close, IsPiece, blank_byte, line_comment, block_comment}
 use Rattle.fv_lex.specs.headline.Pieces.{longest_token, IsFault, unclosed_text, unclosed_comment, real_literal, large_literal, bad_byte}
 use Rattle.fv_lex.specs.inner.Steps.{to_quote, to_close, bare_underscores, number_next, slash_next, sign_next, first_next, next_piece}
 use Rattle.fv_lex.proofs.lemmas.Runs.{Stops, prefix_len-passes, run_is, list_all_more}
 use Rattle.fv_lex.proofs.lemmas.Classes.{digit_range, no_letter, no_blank}
 use Rattle.fv_lex.proofs.lemmas.Sound.{real_parts, tail_behind, front_before, integer_all, name_run, name_head, Bare}
+use Rattle.fv_base.specs.declared.limits.TheConstants.{GREATEST_LITERAL}
 
 -- ---- the first byte
 no_count : (v : Bool) → nat_lt 0 (cond v 0 0) ≡ false
@@ -147,7 +148,7 @@ unreal_tail bytes rest e unreal = go (is_real_tail rest) refl
 
 -- the number of a longest run of digits that is no real literal
 number_is : (bytes rest : List ℕ) → is_integer bytes ≡ true → IsLongest bytes rest → (BeginsReal (bytes ++ rest) → ⊥)
-    → number_next (bytes ++ rest) ≡ cond (nat_lt greatest_literal (value bytes)) (Refused LiteralTooLarge) (Found (length bytes) (Some Integer))
+    → number_next (bytes ++ rest) ≡ cond (nat_lt GREATEST_LITERAL (value bytes)) (Refused LiteralTooLarge) (Found (length bytes) (Some Integer))
 number_is bytes rest e longest unreal =
     let stops = integer_stops bytes rest e longest in
     let tail : is_real_tail (drop (prefix_len is_digit (bytes ++ rest)) (bytes ++ rest)) ≡ false =
@@ -304,12 +305,12 @@ double_found b c rest e = bare_next b (c ∷ rest) (double_bare b c (c ∷ rest)
 
 -- ---- all tokens, and all pieces
 token_found : (kind : Kind) (bytes rest : List ℕ) → is_token kind bytes ≡ true
-    → IsLongest bytes rest → begins_comment (bytes ++ rest) ≡ false → (BeginsReal (bytes ++ rest) → ⊥) → (kind ≡ Integer → value bytes ≤ greatest_literal)
+    → IsLongest bytes rest → begins_comment (bytes ++ rest) ≡ false → (BeginsReal (bytes ++ rest) → ⊥) → (kind ≡ Integer → value bytes ≤ GREATEST_LITERAL)
     → next_piece (bytes ++ rest) ≡ Found (length bytes) (Some kind)
 token_found Name [] rest e longest comment unreal small = absurd cc
 token_found Name (b ∷ body) rest e longest comment unreal small = name_found b body rest e longest
 token_found Integer bytes rest e longest comment unreal small =
-    let fits : nat_lt greatest_literal (value bytes) ≡ false = le-ltb greatest_literal (value bytes) (small refl) in
+    let fits : nat_lt GREATEST_LITERAL (value bytes) ≡ false = le-ltb GREATEST_LITERAL (value bytes) (small refl) in
     integer_next bytes rest e ∙ number_is bytes rest e longest unreal ∙ rw fits refl
 token_found Text [] rest e longest comment unreal small = absurd cc
 token_found Text (b ∷ body) rest e longest comment unreal small = text_found b body rest e
@@ -376,6 +377,6 @@ fault_refused text fault (unclosed_text {body} e) = rw (no_quote body e) refl
 fault_refused text fault (unclosed_comment {body} e) = rw (no_close body e) refl
 fault_refused text fault (real_literal h) = real_refused text h
 fault_refused text fault (large_literal bytes rest e longest unreal large) =
-    let over : nat_lt greatest_literal (value bytes) ≡ true = lt-ltb greatest_literal (value bytes) large in
+    let over : nat_lt GREATEST_LITERAL (value bytes) ≡ true = lt-ltb GREATEST_LITERAL (value bytes) large in
     integer_next bytes rest e ∙ number_is bytes rest e longest unreal ∙ rw over refl
 fault_refused text fault (bad_byte {b} {bs} blank quote none) = bare_next b bs (bad_bare b bs blank quote none) ∙ bad_next b bs none

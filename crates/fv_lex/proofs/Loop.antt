@@ -20,15 +20,16 @@ use Rattle.fv_lex.specs.headline.Bytes.{is_letter, is_underscore, begins}
 use Rattle.fv_lex.specs.headline.Symbols.{symbol_of}
 use Rattle.std.specs.List.{prefix_len}
 use Rattle.fv_lex.specs.inner.Steps.{bare_underscores, IsBare, next_piece}
-use Rattle.fv_lex.specs.headline.Cuts.{deepest, depth_after, Cut, Cuts, nothing_more, piece_first, Ends, whole, faulty, too_deep}
-use Rattle.fv_lex.specs.headline.Cuts.{first_place, place_after, token_of, tokens_of, end_of, refusal_at, answer_of, longest_text, Has, cut}
+use Rattle.fv_lex.specs.headline.Cuts.{depth_after, Cut, Cuts, nothing_more, piece_first, Ends, whole, faulty, too_deep}
+use Rattle.fv_lex.specs.headline.Cuts.{first_place, place_after, token_of, tokens_of, end_of, refusal_at, answer_of, Has, cut}
 use Rattle.fv_lex.proofs.TokenLists.{length-tokens_in}
 use Rattle.fv_lex.proofs.lemmas.Runs.{prefix_len-passes}
 use Rattle.fv_lex.proofs.lemmas.Sound.{At, Told, sound, wires_some, run_head}
+use Rattle.fv_base.specs.declared.limits.TheConstants.{DEEPEST_NESTING, LONGEST_TEXT}
 
 -- ---- a piece at the end of a cut
 cuts_more : (text end : List ℕ) (cuts : List Cut) (depth deep : ℕ) → Cuts text depth cuts end deep
-    → (bytes rest : List ℕ) (kind : Option Kind) → end ≡ bytes ++ rest → IsPiece bytes rest kind → depth_after deep bytes ≤ deepest
+    → (bytes rest : List ℕ) (kind : Option Kind) → end ≡ bytes ++ rest → IsPiece bytes rest kind → depth_after deep bytes ≤ DEEPEST_NESTING
     → Cuts text depth (cuts ++ record { bytes = bytes; kind = kind } ∷ []) rest (depth_after deep bytes)
 cuts_more text end cuts depth deep nothing_more bytes rest kind e p fits =
     subst (λ t. Cuts t depth (record { bytes = bytes; kind = kind } ∷ []) rest (depth_after depth bytes)) (sym e) (piece_first p fits nothing_more)
@@ -88,7 +89,7 @@ has_symbol bytes after None p = tt
 has_symbol bytes after (Some kind) (longest_token e longest comment unreal small) = (e, small)
 
 pub reads_on : (text rest bytes after : List ℕ) (place next : Place) (depth : ℕ) (out : List Token) (kind : Option Kind)
-    → Reads text rest place depth out → Front rest bytes after kind → depth_after depth bytes ≤ deepest
+    → Reads text rest place depth out → Front rest bytes after kind → depth_after depth bytes ≤ DEEPEST_NESTING
     → next ≡ place_after place bytes → Reads text after next (depth_after depth bytes) (out ++ token_of (length out) place bytes kind)
 reads_on text rest bytes after place next depth out kind r f fits moved =
     let c : Cut = record { bytes = bytes; kind = kind } in
@@ -103,7 +104,7 @@ reads_on text rest bytes after place next depth out kind r f fits moved =
     }
 
 pub reads_end : (text rest : List ℕ) (place : Place) (depth : ℕ) (out : List Token)
-    → length text ≤ longest_text → Reads text rest place depth out → next_piece rest ≡ End → Has text (Ok (record { tokens = out; end = place }))
+    → length text ≤ LONGEST_TEXT → Reads text rest place depth out → next_piece rest ≡ End → Has text (Ok (record { tokens = out; end = place }))
 reads_end text rest place depth out fits r e =
     let empty : rest ≡ [] = subst (λ x. Told rest x) e (sound rest) in
     let h : Has text (answer_of r.cuts None) = cut fits (subst (λ t. Cuts text 0 r.cuts t depth) empty r.cut_is) whole in
@@ -111,13 +112,13 @@ reads_end text rest place depth out fits r e =
     (sym r.tokens_are) (subst (λ p. Has text (Ok (record { tokens = tokens_of 0 first_place r.cuts; end = p }))) (sym r.place_is) h)
 
 pub reads_fault : (text rest : List ℕ) (place : Place) (depth : ℕ) (out : List Token) (fault : Fault)
-    → length text ≤ longest_text → Reads text rest place depth out → next_piece rest ≡ Refused fault → Has text (Err (refusal_at place fault))
+    → length text ≤ LONGEST_TEXT → Reads text rest place depth out → next_piece rest ≡ Refused fault → Has text (Err (refusal_at place fault))
 reads_fault text rest place depth out fault fits r e =
     let h : Has text (answer_of r.cuts (Some fault)) = cut fits r.cut_is (faulty (subst (λ x. Told rest x) e (sound rest))) in
     subst (λ p. Has text (Err (refusal_at p fault))) (sym r.place_is) h
 
 pub reads_deep : (text rest bytes after : List ℕ) (place : Place) (depth : ℕ) (out : List Token) (kind : Option Kind)
-    → length text ≤ longest_text → Reads text rest place depth out → Front rest bytes after kind → deepest < depth_after depth bytes
+    → length text ≤ LONGEST_TEXT → Reads text rest place depth out → Front rest bytes after kind → DEEPEST_NESTING < depth_after depth bytes
     → Has text (Err (refusal_at place faults.Nesting))
 reads_deep text rest bytes after place depth out kind fits r f deep =
     let h : Has text (answer_of r.cuts (Some faults.Nesting)) =
@@ -208,11 +209,11 @@ bare_next (b ∷ bs) after n bare kind e found back = λ more.
 pub reads_more : (text rest bytes after : List ℕ)
     (place next : Place) (depth inside : ℕ) (symbols grown : List Symbol) (spans more : List Span) (kind : Option Kind) (n start : ℕ)
     → Reads text rest place depth (tokens_in text symbols spans) → Front rest bytes after kind → inside ≡ depth_after depth bytes
-    → inside ≤ deepest → next ≡ place_after place bytes → length symbols ≡ length spans → n ≡ length spans → rest ≡ drop start text
+    → inside ≤ DEEPEST_NESTING → next ≡ place_after place bytes → length symbols ≡ length spans → n ≡ length spans → rest ≡ drop start text
     → grown ≡ symbols ++ new_symbols n kind bytes → more ≡ spans ++ new_spans kind start bytes place → Reads text after next inside (tokens_in text grown more)
 reads_more text rest bytes after place next depth inside symbols grown spans more kind n start r f deep fits moved paired counted back symbols_are spans_are =
     let out = tokens_in text symbols spans in
-    let room : depth_after depth bytes ≤ deepest = subst (λ d. d ≤ deepest) deep fits in
+    let room : depth_after depth bytes ≤ DEEPEST_NESTING = subst (λ d. d ≤ DEEPEST_NESTING) deep fits in
     let read = reads_on text rest bytes after place next depth out kind r f room moved in
     let number : n ≡ length out = counted ∙ sym (length-tokens_in text symbols spans paired) in
     let new = tokens_in_more text bytes symbols spans kind start n place paired number (part_of text rest bytes after start back f.is) in

@@ -13,10 +13,11 @@ use Rattle.fv_lex.specs.declared.next.Next.{Next}
 use Rattle.fv_lex.specs.declared.next.Next.TheVariants.{End, Found, Refused}
 use Rattle.fv_lex.specs.headline.Token.{Lexed}
 use Rattle.fv_lex.specs.inner.Steps.{next_piece}
-use Rattle.fv_lex.specs.headline.Cuts.{deepest, depth_after, Cut, Cuts, nothing_more, piece_first, Ends}
-use Rattle.fv_lex.specs.headline.Cuts.{whole, faulty, too_deep, answer_of, longest_text, Has, too_long, cut}
+use Rattle.fv_lex.specs.headline.Cuts.{depth_after, Cut, Cuts, nothing_more, piece_first, Ends}
+use Rattle.fv_lex.specs.headline.Cuts.{whole, faulty, too_deep, answer_of, Has, too_long, cut}
 use Rattle.fv_lex.specs.Cuts.{HasAtLeastOne}
 use Rattle.fv_lex.proofs.lemmas.Sound.{At, Told, sound}
+use Rattle.fv_base.specs.declared.limits.TheConstants.{DEEPEST_NESTING, LONGEST_TEXT}
 
 -- a cut of a text as far as it goes
 record Cutting (text : List ℕ) (depth : ℕ) : Type 0 where
@@ -31,12 +32,12 @@ stops_here : (text : List ℕ) (depth : ℕ) (fault : Option Fault) → Ends tex
 stops_here text depth fault e = record { cuts = []; rest = text; deep = depth; fault = fault; cut_is = nothing_more; ends = e }
 
 goes_on : (text : List ℕ) (depth n : ℕ) (kind : Option Kind) → At text n kind → ((d : ℕ) → Cutting (drop n text) d) → Cutting text depth
-goes_on text depth n kind at more = go (depth_after depth (take n text)) refl (cases_lt deepest (depth_after depth (take n text)))
+goes_on text depth n kind at more = go (depth_after depth (take n text)) refl (cases_lt DEEPEST_NESTING (depth_after depth (take n text)))
   where
-    go : (after : ℕ) → after ≡ depth_after depth (take n text) → ((deepest < after) ⊎ (after ≤ deepest)) → Cutting text depth
+    go : (after : ℕ) → after ≡ depth_after depth (take n text) → ((DEEPEST_NESTING < after) ⊎ (after ≤ DEEPEST_NESTING)) → Cutting text depth
     go after is (inl over) =
         subst (λ t. Cutting t depth) (take-append-drop n text)
-        (stops_here (take n text ++ drop n text) depth (Some faults.Nesting) (too_deep at.piece (subst (λ d. deepest < d) is over)))
+        (stops_here (take n text ++ drop n text) depth (Some faults.Nesting) (too_deep at.piece (subst (λ d. DEEPEST_NESTING < d) is over)))
     go after is (inr fits) =
         let tail = more (depth_after depth (take n text)) in
         subst (λ t. Cutting t depth) (take-append-drop n text)
@@ -45,7 +46,7 @@ goes_on text depth n kind at more = go (depth_after depth (take n text)) refl (c
           rest = tail.rest;
           deep = tail.deep;
           fault = tail.fault;
-          cut_is = piece_first at.piece (subst (λ d. d ≤ deepest) is fits) tail.cut_is;
+          cut_is = piece_first at.piece (subst (λ d. d ≤ DEEPEST_NESTING) is fits) tail.cut_is;
           ends = tail.ends;
         })
 
@@ -61,8 +62,8 @@ cutting (suc k) text depth fits =
     turn text depth (next_piece text) (sound text) (λ n some within d. cutting k (drop n text) d (omega (arith, length-drop n text)))
 
 pub at_least_one : HasAtLeastOne
-at_least_one text = go (cases_lt longest_text (length text))
+at_least_one text = go (cases_lt LONGEST_TEXT (length text))
   where
-    go : ((longest_text < length text) ⊎ (length text ≤ longest_text)) → (answer : Result Lexed LexRefusal) × Has text answer
+    go : ((LONGEST_TEXT < length text) ⊎ (length text ≤ LONGEST_TEXT)) → (answer : Result Lexed LexRefusal) × Has text answer
     go (inl over) = (Err (TextTooLong Program), too_long over)
     go (inr fits) = let c = cutting (length text) text 0 (omega arith) in (answer_of c.cuts c.fault, cut fits c.cut_is c.ends)

@@ -11,9 +11,10 @@ use Rattle.fv_lex.specs.declared.next.Next.TheVariants.{End, Found, Refused}
 use Rattle.fv_lex.specs.headline.Token.{Lexed}
 use Rattle.fv_lex.specs.headline.Pieces.{IsPiece}
 use Rattle.fv_lex.specs.inner.Steps.{next_piece}
-use Rattle.fv_lex.specs.headline.Cuts.{deepest, depth_after, Cut, Cuts, nothing_more, piece_first, Ends, whole, faulty, too_deep, answer_of, Has, too_long, cut}
+use Rattle.fv_lex.specs.headline.Cuts.{depth_after, Cut, Cuts, nothing_more, piece_first, Ends, whole, faulty, too_deep, answer_of, Has, too_long, cut}
 use Rattle.fv_lex.specs.Cuts.{HasTokens, HasRefusal, HasAtMostOne}
 use Rattle.fv_lex.proofs.Complete.{piece_found, fault_refused}
+use Rattle.fv_base.specs.declared.limits.TheConstants.{DEEPEST_NESTING}
 
 same_front : (a r b s : List ℕ) → a ++ r ≡ b ++ s → length a ≡ length b → a ≡ b
 same_front a r b s e l = sym (take_at a r (length a) refl) ∙ ap (take (length a)) e ∙ take_at b s (length a) (sym l)
@@ -60,7 +61,7 @@ ends_unique t u d e f g a b same = stopped_unique u f g (subst (λ r. Stopped r 
 
 -- a cut does not end where a piece goes on
 no_piece : (text : List ℕ) (d : ℕ) (f : Option Fault)
-    → Ends text d f → (bytes rest : List ℕ) (kind : Option Kind) → IsPiece bytes rest kind → depth_after d bytes ≤ deepest → text ≡ bytes ++ rest → ⊥
+    → Ends text d f → (bytes rest : List ℕ) (kind : Option Kind) → IsPiece bytes rest kind → depth_after d bytes ≤ DEEPEST_NESTING → text ≡ bytes ++ rest → ⊥
 no_piece text d f whole bytes rest kind p fits e =
     let found = piece_found bytes rest kind p in
     let never : End ≡ Found (length bytes) kind = ap next_piece e ∙ found in
@@ -70,7 +71,7 @@ no_piece text d f (faulty {fault = g} h) bytes rest kind p fits e =
     cc
 no_piece text d f (too_deep {bytes = a} {rest = r} {kind = j} q deep) bytes rest kind p fits e =
     let same = piece_unique a r bytes rest j kind q p e in
-    let back : deepest < depth_after d bytes = subst (λ b. deepest < depth_after d b) same.bytes deep in
+    let back : DEEPEST_NESTING < depth_after d bytes = subst (λ b. DEEPEST_NESTING < depth_after d b) same.bytes deep in
     omega arith
 
 -- ---- the whole cut

@@ -1,7 +1,8 @@
 -- Small answers, which hold by computing.
 use Rattle.std.specs.Prelude.{◌≡◌, refl, true, false, codes, [], ◌∷◌, ◌++◌, Some, None}
 use Rattle.fv_lex.specs.declared.token.Symbol.TheVariants as symbols
-use Rattle.fv_lex.specs.headline.Symbols.{sign, value, word_symbol}
+use Rattle.fv_num.specs.declared.op.Op.TheVariants as ops
+use Rattle.fv_lex.specs.headline.Symbols.{sign, value, word_symbol, operation}
 use Rattle.fv_lex.specs.headline.Pieces.{is_name, is_integer, is_text, is_real_tail, BeginsReal, fraction, real, has_close}
 use Rattle.fv_lex.specs.headline.Cuts.{first_place, place_after, depth_after}
 
@@ -26,7 +27,7 @@ digits_have_a_value = refl
 a_string_ends_at_its_first_quote : is_text (34 ∷ 34 ∷ 34 ∷ []) ≡ false
 a_string_ends_at_its_first_quote = refl
 
-a_reserved_word : word_symbol 3 (codes "min") ≡ symbols.Min
+a_reserved_word : word_symbol 3 (codes "min") ≡ operation ops.Min
 a_reserved_word = refl
 
 an_unsupported_word : word_symbol 3 (codes "letrec") ≡ symbols.Unsupported 3

@@ -8,3 +8,4 @@ pub mod inner
 -- what it hands on of crates below
 pub use Rattle.fv_base.specs.declared.limits as Limits
 pub use Rattle.fv_base.specs.headline.Digits
+pub use Rattle.fv_num.specs.declared.op.Op

@@ -9,8 +9,9 @@ use Rattle.fv_lex.specs.declared.token.Tokens.TheInside.{Inside}
 use Rattle.fv_lex.specs.headline.Token.{Token, Lexed}
 use Rattle.fv_lex.specs.headline.Symbols.{symbol_of, value}
 use Rattle.fv_lex.specs.Carried.{AllCarry}
-use Rattle.fv_lex.specs.headline.Pieces.{is_token, greatest_literal}
+use Rattle.fv_lex.specs.headline.Pieces.{is_token}
 use Rattle.fv_lex.specs.Cuts.{HasTokens}
+use Rattle.fv_base.specs.declared.limits.TheConstants.{GREATEST_LITERAL}
 
 -- the token of a symbol and a span
 abbrev pub token_in : List ℕ → Symbol → Span → Token
@@ -51,4 +52,4 @@ new_spans (Some kind) start bytes place = record { kind = kind; start = start; l
 -- a piece that is a token has a symbol
 abbrev pub HasSymbol : Option Kind → List ℕ → Type 0
 HasSymbol None bytes = Unit {0}
-HasSymbol (Some kind) bytes = (is_token kind bytes ≡ true) × (kind ≡ Integer → value bytes ≤ greatest_literal)
+HasSymbol (Some kind) bytes = (is_token kind bytes ≡ true) × (kind ≡ Integer → value bytes ≤ GREATEST_LITERAL)

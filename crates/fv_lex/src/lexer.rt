@@ -6,8 +6,9 @@ ghost use Rattle.fv_lex.specs.declared.refusal.LexRefusal.{LexRefusal};
 ghost use Rattle.fv_lex.specs.declared.refusal.LexRefusal.TheVariants.{NoMemory};
 ghost use Rattle.fv_lex.specs.headline.Token.{Lexed};
 ghost use Rattle.fv_lex.specs.Spans.{new_symbols, new_spans, HasSymbol};
-ghost use Rattle.fv_lex.specs.headline.Cuts.{depth_after, place_after, longest_text, Has};
+ghost use Rattle.fv_lex.specs.headline.Cuts.{depth_after, place_after, Has};
 ghost use Rattle.fv_lex.specs.Cuts.{HasTokens, HasRefusal, HasAtMostOne, HasAtLeastOne};
+ghost use Rattle.fv_base.specs.declared.limits.TheConstants.{LONGEST_TEXT};
 
 use crate::next::{Next, bare_underscores, next_piece};
 use crate::refusal::{Fault, LexRefusal, refusal_at};
@@ -85,7 +86,7 @@ fn push_piece(
 
 /// The tokens of a text that is not too long.
 fn cut<'a>(alloc: Global, text: &'a [u8]) -> Result<Tokens<'a>, LexRefusal>
-    requires { length text.now ≤ longest_text }
+    requires { length text.now ≤ LONGEST_TEXT }
     ensures tokens { IfOk result (HasTokens text.now) }
     ensures refusal { IfErr result (λ e. (e ≡ NoMemory) ⊎ HasRefusal text.now e) }
 {

@@ -4,8 +4,8 @@ ghost use Rattle.std.specs.Prelude.{◌≡◌, ◌==◌, ◌≤◌, ◌<◌, tru
 ghost use Rattle.std.specs.List.{list_all, prefix_len};
 ghost use Rattle.fv_lex.specs.headline.Bytes.{is_blank, is_letter, is_digit, begins};
 ghost use Rattle.fv_lex.specs.headline.Symbols.{value};
-ghost use Rattle.fv_lex.specs.headline.Pieces.{greatest_literal};
 ghost use Rattle.fv_lex.specs.inner.Steps.{is_in, to_quote, to_close};
+ghost use Rattle.fv_base.specs.declared.limits.TheConstants.{GREATEST_LITERAL};
 
 use fv_base::is_digit;
 use fv_base::limits::GREATEST_LITERAL;
@@ -123,7 +123,7 @@ fn begins_with_slash(text: &[u8]) -> bool
 /// The number that decimal digits spell, if it is no greater than the greatest integer literal.
 pub(crate) fn number(digits: &[u8]) -> Option<u32>
     requires { list_all is_digit digits.now ≡ true }
-    ensures { MatchOption result (greatest_literal < value digits.now) (λ n. (n ≡ value digits.now) × (n ≤ greatest_literal)) }
+    ensures { MatchOption result (GREATEST_LITERAL < value digits.now) (λ n. (n ≡ value digits.now) × (n ≤ GREATEST_LITERAL)) }
 {
     let mut n: u64 = 0;
     let mut rest = digits;

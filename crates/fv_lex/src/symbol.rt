@@ -6,31 +6,34 @@ ghost use Rattle.std.specs.Str.{bytes_eq};
 ghost use Rattle.fv_lex.specs.declared.token.Kind.TheVariants.{Integer};
 ghost use Rattle.fv_lex.specs.headline.Symbols.{at_byte, at_word, singles, double, sign, primitive_words, form_words};
 ghost use Rattle.fv_lex.specs.headline.Symbols.{control_words, unsupported_forms, real_words, word_symbol, symbol_of, value};
-ghost use Rattle.fv_lex.specs.headline.Pieces.{is_token, greatest_literal};
+ghost use Rattle.fv_lex.specs.headline.Pieces.{is_token};
+ghost use Rattle.fv_base.specs.declared.limits.TheConstants.{GREATEST_LITERAL};
 
+use crate::form::{Iteration, Panel, Side, Slider, Switch};
 use crate::scan::number;
 use crate::token::{Kind, Symbol};
+use fv_num::{Op, Primitive};
 
 /// The sign of one byte.
 pub(crate) fn single(b: u8) -> Option<Symbol>
     ensures { result ≡ at_byte singles b }
 {
     let symbol = match b {
-        b'_' => Symbol::Underscore,
-        b'!' => Symbol::Exclamation,
+        b'_' => Symbol::Primitive(Primitive::Wire),
+        b'!' => Symbol::Primitive(Primitive::Cut),
         b',' => Symbol::Comma,
         b':' => Symbol::Colon,
         b'~' => Symbol::Tilde,
         b'+' => Symbol::Plus,
         b'-' => Symbol::Minus,
-        b'*' => Symbol::Times,
-        b'/' => Symbol::Divide,
-        b'%' => Symbol::Percent,
-        b'&' => Symbol::Ampersand,
-        b'|' => Symbol::Bar,
-        b'<' => Symbol::Less,
-        b'>' => Symbol::Greater,
-        b'@' => Symbol::At,
+        b'*' => Symbol::Primitive(Primitive::Point(Op::Mul)),
+        b'/' => Symbol::Primitive(Primitive::Point(Op::Div)),
+        b'%' => Symbol::Primitive(Primitive::Point(Op::Rem)),
+        b'&' => Symbol::Primitive(Primitive::Point(Op::And)),
+        b'|' => Symbol::Primitive(Primitive::Point(Op::Or)),
+        b'<' => Symbol::Primitive(Primitive::Point(Op::Lt)),
+        b'>' => Symbol::Primitive(Primitive::Point(Op::Gt)),
+        b'@' => Symbol::Primitive(Primitive::Delay),
         b'\'' => Symbol::Tick,
         b'(' => Symbol::Open,
         b')' => Symbol::Close,
@@ -52,14 +55,14 @@ pub(crate) fn double(b: u8, c: u8) -> Option<Symbol>
 {
     let symbol = match (b, c) {
         (b'<', b':') => Symbol::Split,
-        (b'<', b'<') => Symbol::ShiftLeft,
-        (b'<', b'=') => Symbol::LessEqual,
-        (b'>', b'>') => Symbol::ShiftRight,
-        (b'>', b'=') => Symbol::GreaterEqual,
-        (b'=', b'=') => Symbol::EqualEqual,
+        (b'<', b'<') => Symbol::Primitive(Primitive::Point(Op::Shl)),
+        (b'<', b'=') => Symbol::Primitive(Primitive::Point(Op::Le)),
+        (b'>', b'>') => Symbol::Primitive(Primitive::Point(Op::Shr)),
+        (b'>', b'=') => Symbol::Primitive(Primitive::Point(Op::Ge)),
+        (b'=', b'=') => Symbol::Primitive(Primitive::Point(Op::Eq)),
         (b'=', b'>') => Symbol::Arrow,
         (b':', b'>') => Symbol::Merge,
-        (b'!', b'=') => Symbol::NotEqual,
+        (b'!', b'=') => Symbol::Primitive(Primitive::Point(Op::Ne)),
         _ => return None,
     };
     Some(symbol)
@@ -86,29 +89,29 @@ fn primitive_word(word: &[u8]) -> Option<Symbol>
     ensures { result ≡ at_word primitive_words word.now }
 {
     if is(word, b"xor") {
-        Some(Symbol::Xor)
+        Some(Symbol::Primitive(Primitive::Point(Op::Xor)))
     } else if is(word, b"mem") {
-        Some(Symbol::Mem)
+        Some(Symbol::Primitive(Primitive::Mem))
     } else if is(word, b"prefix") {
-        Some(Symbol::Prefix)
+        Some(Symbol::Primitive(Primitive::Prefix))
     } else if is(word, b"int") {
-        Some(Symbol::Int)
+        Some(Symbol::Primitive(Primitive::Int))
     } else if is(word, b"attach") {
-        Some(Symbol::Attach)
+        Some(Symbol::Primitive(Primitive::Attach))
     } else if is(word, b"select2") {
-        Some(Symbol::Select2)
+        Some(Symbol::Primitive(Primitive::Point(Op::Select2)))
     } else if is(word, b"select3") {
-        Some(Symbol::Select3)
+        Some(Symbol::Primitive(Primitive::Point(Op::Select3)))
     } else if is(word, b"min") {
-        Some(Symbol::Min)
+        Some(Symbol::Primitive(Primitive::Point(Op::Min)))
     } else if is(word, b"max") {
-        Some(Symbol::Max)
+        Some(Symbol::Primitive(Primitive::Point(Op::Max)))
     } else if is(word, b"abs") {
-        Some(Symbol::Abs)
+        Some(Symbol::Primitive(Primitive::Point(Op::Abs)))
     } else if is(word, b"rdtable") {
-        Some(Symbol::Rdtable)
+        Some(Symbol::Primitive(Primitive::ReadTable))
     } else if is(word, b"rwtable") {
-        Some(Symbol::Rwtable)
+        Some(Symbol::Primitive(Primitive::WriteTable))
     } else {
         None
     }
@@ -119,17 +122,17 @@ fn form_word(word: &[u8]) -> Option<Symbol>
     ensures { result ≡ at_word form_words word.now }
 {
     if is(word, b"par") {
-        Some(Symbol::Par)
+        Some(Symbol::Iteration(Iteration::Parallel))
     } else if is(word, b"seq") {
-        Some(Symbol::Seq)
+        Some(Symbol::Iteration(Iteration::Sequence))
     } else if is(word, b"sum") {
-        Some(Symbol::Sum)
+        Some(Symbol::Iteration(Iteration::Sum))
     } else if is(word, b"prod") {
-        Some(Symbol::Prod)
+        Some(Symbol::Iteration(Iteration::Product))
     } else if is(word, b"inputs") {
-        Some(Symbol::Inputs)
+        Some(Symbol::Ports(Side::Inputs))
     } else if is(word, b"outputs") {
-        Some(Symbol::Outputs)
+        Some(Symbol::Ports(Side::Outputs))
     } else if is(word, b"case") {
         Some(Symbol::Case)
     } else if is(word, b"with") {
@@ -148,21 +151,21 @@ fn control_word(word: &[u8]) -> Option<Symbol>
     ensures { result ≡ at_word control_words word.now }
 {
     if is(word, b"button") {
-        Some(Symbol::Button)
+        Some(Symbol::Switch(Switch::Button))
     } else if is(word, b"checkbox") {
-        Some(Symbol::Checkbox)
+        Some(Symbol::Switch(Switch::Checkbox))
     } else if is(word, b"hslider") {
-        Some(Symbol::Hslider)
+        Some(Symbol::Slider(Slider::Horizontal))
     } else if is(word, b"vslider") {
-        Some(Symbol::Vslider)
+        Some(Symbol::Slider(Slider::Vertical))
     } else if is(word, b"nentry") {
-        Some(Symbol::Nentry)
+        Some(Symbol::Slider(Slider::Number))
     } else if is(word, b"hgroup") {
-        Some(Symbol::Hgroup)
+        Some(Symbol::Panel(Panel::Horizontal))
     } else if is(word, b"vgroup") {
-        Some(Symbol::Vgroup)
+        Some(Symbol::Panel(Panel::Vertical))
     } else if is(word, b"tgroup") {
-        Some(Symbol::Tgroup)
+        Some(Symbol::Panel(Panel::Tabs))
     } else {
         None
     }
@@ -234,7 +237,7 @@ fn word_symbol(n: u64, word: &[u8]) -> Symbol
 /// The symbol of token `n`, which has this kind and these bytes.
 pub(crate) fn symbol_of(n: u64, kind: Kind, bytes: &[u8]) -> Symbol
     requires token { is_token kind bytes.now ≡ true }
-    requires small { kind ≡ Integer → value bytes.now ≤ greatest_literal }
+    requires small { kind ≡ Integer → value bytes.now ≤ GREATEST_LITERAL }
     ensures { result ≡ symbol_of n kind bytes.now }
 {
     match kind {

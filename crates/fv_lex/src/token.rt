@@ -6,6 +6,8 @@ ghost use Rattle.fv_lex.specs.headline.Token.{symbols_of, texts_of, places_of};
 ghost use Rattle.fv_lex.specs.Token.{kinds_of};
 ghost use Rattle.fv_lex.specs.Cuts.{HasTokens};
 
+use crate::form::{Iteration, Panel, Side, Slider, Switch};
+use fv_num::Primitive;
 use std::marker::Model;
 
 /// What kind of token it is. A reserved word is a `Name`.
@@ -36,10 +38,12 @@ pub enum Symbol {
     Integer(u32),
     /// A word of Faust that is not supported.
     Unsupported(u64),
-    /// `_`
-    Underscore,
-    /// `!`
-    Exclamation,
+    /// The sign or the word of a primitive, apart from `+` and `-`, which may be part of a number.
+    Primitive(Primitive),
+    /// `+`
+    Plus,
+    /// `-`
+    Minus,
     /// `,`
     Comma,
     /// `:`
@@ -50,38 +54,6 @@ pub enum Symbol {
     Merge,
     /// `~`
     Tilde,
-    /// `+`
-    Plus,
-    /// `-`
-    Minus,
-    /// `*`
-    Times,
-    /// `/`
-    Divide,
-    /// `%`
-    Percent,
-    /// `&`
-    Ampersand,
-    /// `|`
-    Bar,
-    /// `<<`
-    ShiftLeft,
-    /// `>>`
-    ShiftRight,
-    /// `<`
-    Less,
-    /// `<=`
-    LessEqual,
-    /// `>`
-    Greater,
-    /// `>=`
-    GreaterEqual,
-    /// `==`
-    EqualEqual,
-    /// `!=`
-    NotEqual,
-    /// `@`
-    At,
     /// `'`
     Tick,
     /// `(`
@@ -104,36 +76,15 @@ pub enum Symbol {
     Backslash,
     /// `^`
     Caret,
-    Xor,
-    Mem,
-    Prefix,
-    Int,
-    Attach,
-    Select2,
-    Select3,
-    Rdtable,
-    Rwtable,
-    Min,
-    Max,
-    Abs,
-    Par,
-    Seq,
-    Sum,
-    Prod,
-    Inputs,
-    Outputs,
     Case,
     Waveform,
     With,
     Declare,
-    Button,
-    Checkbox,
-    Hslider,
-    Vslider,
-    Nentry,
-    Hgroup,
-    Vgroup,
-    Tgroup,
+    Iteration(Iteration),
+    Ports(Side),
+    Switch(Switch),
+    Slider(Slider),
+    Panel(Panel),
 }
 
 /// Where a token stands in its text.

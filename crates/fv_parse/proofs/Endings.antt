@@ -15,30 +15,30 @@ use Rattle.fv_parse.specs.headline.Outcomes.{IsSupported, IsSpelled, IsAccepted,
 use Rattle.fv_parse.specs.Outcomes.{HasTree, IsOneRefusal, IsNotBoth, IsRefusedOrWants}
 use Rattle.fv_parse.specs.inner.Outcomes.{Finishes}
 use Rattle.fv_parse.specs.headline.StaticErrors.{refused}
-use Rattle.fv_lex.specs.headline.Cuts.{deepest}
+use Rattle.fv_base.specs.declared.limits.TheConstants.{DEEPEST_NESTING}
 
 -- ---- no tree
 pub no_tree : ReadsAllSpelled → (l : Lexed) (at : List Symbol)
-    → Nests deepest 0 (symbols_of l.tokens) → program deepest (symbols_of l.tokens) ≡ Err at → (x : Spelled) → IsSpelled l x → ⊥
-no_tree reads l at nests e x s = let read = reads deepest (symbols_of l.tokens) x s nests in cc
+    → Nests DEEPEST_NESTING 0 (symbols_of l.tokens) → program DEEPEST_NESTING (symbols_of l.tokens) ≡ Err at → (x : Spelled) → IsSpelled l x → ⊥
+no_tree reads l at nests e x s = let read = reads DEEPEST_NESTING (symbols_of l.tokens) x s nests in cc
 
 -- ---- answers
 pub tree_answer : ReadsOnlySpelled → (l : Lexed) (x : Spelled) (r : Result Parsed ParseRefusal)
-    → IsSupported l → program deepest (symbols_of l.tokens) ≡ Ok x → Finishes l x r → IfOk r (HasTree l)
+    → IsSupported l → program DEEPEST_NESTING (symbols_of l.tokens) ≡ Ok x → Finishes l x r → IfOk r (HasTree l)
 tree_answer sound l x (Ok p) supported read f = record {
   supported = supported;
   tokens = f.0;
-  spelled = subst (λ y. IsSpelled l y) (sym f.1) (sound deepest (symbols_of l.tokens) x read);
+  spelled = subst (λ y. IsSpelled l y) (sym f.1) (sound DEEPEST_NESTING (symbols_of l.tokens) x read);
   accepted = subst (λ y. refused l y ≡ None) (sym f.1) f.2;
 }
 tree_answer sound l x (Err e) supported read f = tt
 
 pub refusal_answer : ReadsOnlySpelled → (l : Lexed) (x : Spelled) (r : Result Parsed ParseRefusal)
-    → IsSupported l → program deepest (symbols_of l.tokens) ≡ Ok x → Finishes l x r → IfErr r (λ e. (e ≡ refusals.NoMemory) ⊎ HasRefusal l e)
+    → IsSupported l → program DEEPEST_NESTING (symbols_of l.tokens) ≡ Ok x → Finishes l x r → IfErr r (λ e. (e ≡ refusals.NoMemory) ⊎ HasRefusal l e)
 refusal_answer sound l x (Ok p) supported read f = tt
 refusal_answer sound l x (Err e) supported read f = elim f [
   | inl memory ↦ inl memory
-  | inr was ↦ inr (refused_tree supported (sound deepest (symbols_of l.tokens) x read) was)
+  | inr was ↦ inr (refused_tree supported (sound DEEPEST_NESTING (symbols_of l.tokens) x read) was)
 ]
 
 pub only_answer : SpelledOnce

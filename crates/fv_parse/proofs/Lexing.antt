@@ -14,12 +14,14 @@ use Rattle.fv_lex.specs.declared.refusal.LexRefusal.{LexRefusal}
 use Rattle.fv_lex.specs.headline.Token.{Token, Lexed, symbols_of}
 use Rattle.fv_lex.specs.headline.Bytes.{is_blank}
 use Rattle.fv_lex.specs.headline.Symbols.{at_byte, at_word, singles, after_less, after_greater, after_equals, double}
-use Rattle.fv_lex.specs.headline.Symbols.{primitive_words, form_words, control_words, is_unsupported, word_symbol, symbol_of}
+use Rattle.fv_lex.specs.Op.TheVariants as ops
+use Rattle.fv_lex.specs.headline.Symbols.{operation, primitive_words, form_words, control_words, is_unsupported, word_symbol, symbol_of}
 use Rattle.fv_lex.specs.headline.Pieces.{is_token, IsPiece, blank_byte, line_comment, block_comment, longest_token}
 use Rattle.fv_lex.specs.headline.Cuts.{depth_after, Cut, Cuts, nothing_more, piece_first, tokens_of, token_of, place_after, first_place, end_of, Has}
 use Rattle.fv_lex.specs.Cuts.{HasTokens}
-use Rattle.fv_lex.specs.headline.Cuts.{too_long, cut, deepest}
+use Rattle.fv_lex.specs.headline.Cuts.{too_long, cut}
 use Rattle.fv_parse_grammar.specs.Nesting.{Nests, lowered}
+use Rattle.fv_base.specs.declared.limits.TheConstants.{DEEPEST_NESTING}
 
 -- a symbol that is no bracket
 abbrev plain : Symbol → Bool
@@ -29,7 +31,7 @@ plain OpenBrace = false
 plain CloseBrace = false
 plain s = true
 
-plain_nests : (d : ℕ) (s : Symbol) (ts : List Symbol) → plain s ≡ true → Nests deepest d ts → Nests deepest d (s ∷ ts)
+plain_nests : (d : ℕ) (s : Symbol) (ts : List Symbol) → plain s ≡ true → Nests DEEPEST_NESTING d ts → Nests DEEPEST_NESTING d (s ∷ ts)
 plain_nests d Open ts p n = absurd cc
 plain_nests d Close ts p n = absurd cc
 plain_nests d OpenBrace ts p n = absurd cc
@@ -73,7 +75,7 @@ double_plain b c =
     (plain_if (nat_eq b 62) _ _ (byte_plain after_greater c refl)
     (plain_if (nat_eq b 61) _ _ (byte_plain after_equals c refl)
     (plain_if (nat_eq b 58) _ _ (byte_plain ((62, symbols.Merge) ∷ []) c refl)
-    (plain_if (nat_eq b 33) _ _ (byte_plain ((61, symbols.NotEqual) ∷ []) c refl) tt))))
+    (plain_if (nat_eq b 33) _ _ (byte_plain ((61, operation ops.Ne) ∷ []) c refl) tt))))
 
 -- ---- single bytes
 abbrev is_bracket : ℕ → Bool
@@ -108,14 +110,15 @@ bracket_cases P b p40 p123 p41 p125 other = first (nat_eq b 40) refl
     first true e = subst P (sym (eqb-true b 40 e)) p40
     first false e = second e (nat_eq b 123) refl
 
-shallower : (d : ℕ) (ts : List Symbol) → Nests deepest (d - 1) ts → Nests deepest (lowered d) ts
+shallower : (d : ℕ) (ts : List Symbol) → Nests DEEPEST_NESTING (d - 1) ts → Nests DEEPEST_NESTING (lowered d) ts
 shallower zero ts n = n
-shallower (suc d) ts n = let less : suc d - 1 ≡ d = omega arith in subst (λ k. Nests deepest k ts) less n
+shallower (suc d) ts n = let less : suc d - 1 ≡ d = omega arith in subst (λ k. Nests DEEPEST_NESTING k ts) less n
 
 -- what a token of these bytes does to the depth
 abbrev Steps : ℕ → ℕ → Kind → List Symbol → List ℕ → Type 0
 Steps n d kind ts bytes =
-    is_token kind bytes ≡ true → depth_after d bytes ≤ deepest → Nests deepest (depth_after d bytes) ts → Nests deepest d (symbol_of n kind bytes ∷ ts)
+    is_token kind bytes ≡ true → depth_after d bytes ≤ DEEPEST_NESTING → Nests DEEPEST_NESTING (depth_after d bytes) ts
+    → Nests DEEPEST_NESTING d (symbol_of n kind bytes ∷ ts)
 
 symbol_plain : (n : ℕ) (kind : Kind) (b : ℕ) → is_bracket b ≡ false → plain (symbol_of n kind (b ∷ [])) ≡ true
 symbol_plain n Name b h = name_plain n (b ∷ [])
@@ -154,7 +157,8 @@ token_nests n d Text ts [] h le m = absurd cc
 token_nests n d Sign ts [] h le m = absurd cc
 token_nests n d kind ts (b ∷ []) h le m =
     bracket_cases (λ z. Steps n d kind ts (z ∷ [])) b (opened n d kind ts) (brace_opened n d kind ts) (closed n d kind ts) (brace_closed n d kind ts)
-    (λ no_ same is low nests. plain_nests d (symbol_of n kind (b ∷ [])) ts (symbol_plain n kind b no_) (subst (λ k. Nests deepest k ts) (same d) nests)) h le m
+    (λ no_ same is low nests. plain_nests d (symbol_of n kind (b ∷ [])) ts (symbol_plain n kind b no_)
+    (subst (λ k. Nests DEEPEST_NESTING k ts) (same d) nests)) h le m
 token_nests n d Name ts (b ∷ c ∷ bs) h le m = plain_nests d (word_symbol n (b ∷ c ∷ bs)) ts (name_plain n (b ∷ c ∷ bs)) m
 token_nests n d Integer ts (b ∷ c ∷ bs) h le m = m
 token_nests n d Text ts (b ∷ c ∷ bs) h le m = m
@@ -169,28 +173,28 @@ blank_depth b d h =
     (λ e. absurd cc) (λ e. absurd cc) (λ e. absurd cc) (λ e. absurd cc) (λ no_ same e. same d) h
 
 piece_nests : {bytes rest : List ℕ} {kind : Option Kind} → IsPiece bytes rest kind
-    → (n d : ℕ) (place : Place) (ts : List Token) → depth_after d bytes ≤ deepest → Nests deepest (depth_after d bytes) (symbols_of ts)
-    → Nests deepest d (symbols_of (token_of n place bytes kind ++ ts))
-piece_nests (blank_byte {b = b} h) n d place ts le m = subst (λ k. Nests deepest k (symbols_of ts)) (blank_depth b d h) m
+    → (n d : ℕ) (place : Place) (ts : List Token) → depth_after d bytes ≤ DEEPEST_NESTING → Nests DEEPEST_NESTING (depth_after d bytes) (symbols_of ts)
+    → Nests DEEPEST_NESTING d (symbols_of (token_of n place bytes kind ++ ts))
+piece_nests (blank_byte {b = b} h) n d place ts le m = subst (λ k. Nests DEEPEST_NESTING k (symbols_of ts)) (blank_depth b d h) m
 piece_nests (line_comment h e) n d place ts le m = m
 piece_nests (block_comment body h) n d place ts le m = m
 piece_nests (longest_token {bytes = bytes} {kind = kind} h longest comment real small) n d place ts le m = token_nests n d kind (symbols_of ts) bytes h le m
 
 cuts_nest : {text end : List ℕ} {d deep : ℕ} {cuts : List Cut}
-    → Cuts text d cuts end deep → (n : ℕ) (place : Place) → Nests deepest d (symbols_of (tokens_of n place cuts))
+    → Cuts text d cuts end deep → (n : ℕ) (place : Place) → Nests DEEPEST_NESTING d (symbols_of (tokens_of n place cuts))
 cuts_nest nothing_more n place = tt
 cuts_nest (piece_first {bytes = bytes} {kind = kind} {cuts = cuts} {depth = d} piece le more') n place =
     piece_nests piece n d place (tokens_of (n + length (token_of n place bytes kind)) (place_after place bytes) cuts) le
     (cuts_nest more' (n + length (token_of n place bytes kind)) (place_after place bytes))
 
-has_nests : {text : List ℕ} {answer : Result Lexed LexRefusal} → Has text answer → (l : Lexed) → answer ≡ Ok l → Nests deepest 0 (symbols_of l.tokens)
+has_nests : {text : List ℕ} {answer : Result Lexed LexRefusal} → Has text answer → (l : Lexed) → answer ≡ Ok l → Nests DEEPEST_NESTING 0 (symbols_of l.tokens)
 has_nests (too_long h) l e = absurd cc
 has_nests (cut {cuts = cuts} {fault = None} short cutting ends) l e =
     let made : Lexed = record { tokens = tokens_of 0 first_place cuts; end = end_of first_place cuts } in
     let same : made ≡ l = cc in
-    subst (λ (k : Lexed). Nests deepest 0 (symbols_of k.tokens)) same (cuts_nest cutting 0 first_place)
+    subst (λ (k : Lexed). Nests DEEPEST_NESTING 0 (symbols_of k.tokens)) same (cuts_nest cutting 0 first_place)
 has_nests (cut {cuts = cuts} {fault = Some fault} short cutting ends) l e = absurd cc
 
 -- The tokens of a text nest within the limit.
-pub tokens_nest : (text : List ℕ) (l : Lexed) → HasTokens text l → Nests deepest 0 (symbols_of l.tokens)
+pub tokens_nest : (text : List ℕ) (l : Lexed) → HasTokens text l → Nests DEEPEST_NESTING 0 (symbols_of l.tokens)
 tokens_nest text l h = has_nests h l refl

@@ -7,7 +7,6 @@ use Rattle.fv_parse_grammar.specs.headline.Tree.{Tree as Spelled}
 use Rattle.fv_parse_grammar.specs.Grammar.{SpelledOnce}
 use Rattle.fv_parse_grammar.specs.Descent.{program}
 use Rattle.fv_parse_grammar.specs.Laws.{ReadsOnlySpelled, ReadsAllSpelled}
-use Rattle.fv_lex.specs.headline.Cuts.{deepest}
 use Rattle.fv_lex.specs.Cuts.{HasTokens}
 use Rattle.fv_parse.specs.headline.Unsupported.{first_unsupported}
 use Rattle.fv_parse.proofs.Lexing.{tokens_nest}
@@ -20,6 +19,7 @@ use Rattle.fv_parse.specs.headline.StaticErrors.{refused}
 use Rattle.fv_parse.specs.headline.Outcomes.{IsSupported, IsSpelled, IsAccepted, StopsAt, HasRefusal, unsupported, syntax_error, refused_tree}
 use Rattle.fv_parse.specs.Outcomes.{IsOneRefusal, IsNotBoth}
 use Rattle.fv_parse.specs.Outcomes.{IsOneOrOther}
+use Rattle.fv_base.specs.declared.limits.TheConstants.{DEEPEST_NESTING}
 
 -- a choice that is some value is that one alone
 one_some : {A : Type 0} (o : Option A) (a b : A) → o ≡ Some a → o ≡ Some b → a ≡ b
@@ -65,11 +65,11 @@ by_error l x (Some refusal) s is e = inr (refusal, refused_tree s is e)
 
 -- by what is read
 by_reading : ReadsOnlySpelled → ReadsAllSpelled → (text : List ℕ) (l : Lexed) (read : Result Spelled (List Symbol))
-    → StopsAtThePlace → HasTokens text l → IsSupported l → program deepest (symbols_of l.tokens) ≡ read → Outcome l
-by_reading sound complete text l (Ok x) place has s e = by_error l x (refused l x) s (sound deepest (symbols_of l.tokens) x e) refl
+    → StopsAtThePlace → HasTokens text l → IsSupported l → program DEEPEST_NESTING (symbols_of l.tokens) ≡ read → Outcome l
+by_reading sound complete text l (Ok x) place has s e = by_error l x (refused l x) s (sound DEEPEST_NESTING (symbols_of l.tokens) x e) refl
 by_reading sound complete text l (Err rest) place has s e =
     let nests = tokens_nest text l has in
-    let stops = place deepest (symbols_of l.tokens) rest nests e in
+    let stops = place DEEPEST_NESTING (symbols_of l.tokens) rest nests e in
     inr (
       _,
       syntax_error (place_from l (length rest)) s
@@ -79,7 +79,7 @@ by_reading sound complete text l (Err rest) place has s e =
 -- by the first unsupported token
 by_word : ReadsOnlySpelled → ReadsAllSpelled
     → (text : List ℕ) (l : Lexed) (found : Option (List ℕ)) → StopsAtThePlace → HasTokens text l → first_unsupported l.tokens ≡ found → Outcome l
-by_word sound complete text l None place has e = by_reading sound complete text l (program deepest (symbols_of l.tokens)) place has e refl
+by_word sound complete text l None place has e = by_reading sound complete text l (program DEEPEST_NESTING (symbols_of l.tokens)) place has e refl
 by_word sound complete text l (Some word) place has e = inr (Unsupported word, unsupported e)
 
 pub one_or_other : ReadsOnlySpelled → ReadsAllSpelled → StopsAtThePlace → IsOneOrOther

@@ -15,10 +15,7 @@ const PERCENT: u8 = b'%';
 fn is_control(symbol: Symbol) -> bool
     ensures { result ≡ is_control symbol }
 {
-    matches!(
-        symbol,
-        Symbol::Button | Symbol::Checkbox | Symbol::Hslider | Symbol::Vslider | Symbol::Nentry
-    )
+    matches!(symbol, Symbol::Switch(_) | Symbol::Slider(_))
 }
 
 fn is_open(symbol: Symbol) -> bool

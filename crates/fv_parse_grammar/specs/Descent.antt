@@ -4,28 +4,27 @@ use Rattle.fv_parse_grammar.specs.headline.Tree.{Waveform, Panel, Delayed, Apply
 use Rattle.std.specs.Prelude.{ℕ, zero, suc, Bool, true, false, nat_lt, nat_eq, List, [], ◌∷◌, length, drop, Result, Ok, Err, if◌then◌else◌}
 use Rattle.fv_lex.specs.declared.token.Symbol.{Symbol}
 use Rattle.fv_lex.specs.declared.token.Symbol.TheVariants.{Name, Text, Integer, Comma, Open, Declare, With, Tick}
-use Rattle.fv_parse_grammar.specs.declared.form.Primitive.TheVariants as primitives
+use Rattle.fv_num.specs.declared.op.Op.TheVariants.{Add, Sub}
+use Rattle.fv_num.specs.declared.primitive.Primitive.TheVariants.{Point}
 use Rattle.fv_parse_grammar.specs.declared.form.Operator.{Operator}
 use Rattle.fv_parse_grammar.specs.declared.form.Operator.TheVariants as operators
 use Rattle.fv_lex.specs.declared.token.Symbol.TheVariants as symbols
 use Rattle.fv_parse_grammar.specs.declared.form.Literal.{Literal}
 use Rattle.fv_parse_grammar.specs.declared.form.Literal.TheVariants as literal
-use Rattle.fv_parse_grammar.specs.declared.form.Iteration.{Iteration as Repetition}
-use Rattle.fv_parse_grammar.specs.declared.form.Side.{Side}
-use Rattle.fv_parse_grammar.specs.declared.form.Switch.{Switch as SwitchKind}
-use Rattle.fv_parse_grammar.specs.declared.form.Slider.{Slider as SliderKind}
-use Rattle.fv_parse_grammar.specs.declared.form.Panel.{Panel as PanelKind}
-use Rattle.fv_parse_grammar.specs.declared.symbol.Head.{Head}
-use Rattle.fv_parse_grammar.specs.declared.symbol.Head.TheVariants as heads
+use Rattle.fv_lex.specs.declared.form.Iteration.{Iteration as Repetition}
+use Rattle.fv_lex.specs.declared.form.Side.{Side}
+use Rattle.fv_lex.specs.declared.form.Switch.{Switch as SwitchKind}
+use Rattle.fv_lex.specs.declared.form.Slider.{Slider as SliderKind}
+use Rattle.fv_lex.specs.declared.form.Panel.{Panel as PanelKind}
 use Rattle.fv_parse_grammar.specs.declared.symbol.Inside.{Inside}
 use Rattle.fv_parse_grammar.specs.declared.symbol.Inside.TheVariants as insides
 use Rattle.fv_parse_grammar.specs.declared.symbol.Items.{Items}
 use Rattle.fv_parse_grammar.specs.declared.symbol.Items.TheVariants.{Statements, Definitions, Rules, Parts}
 use Rattle.fv_parse_grammar.specs.declared.symbol.Mark.{Mark}
 use Rattle.fv_parse_grammar.specs.declared.symbol.Mark.TheVariants as marks
-use Rattle.fv_parse_grammar.specs.headline.Symbols.{head, power, operator, is_left}
+use Rattle.fv_parse_grammar.specs.headline.Symbols.{power, operator, is_left}
 use Rattle.fv_parse_grammar.specs.Symbols.{is_mark}
-use Rattle.fv_parse_grammar.specs.headline.Tree.{Tree, Number, Negative, Named, MinusNamed, Wire, Cut, Primitive}
+use Rattle.fv_parse_grammar.specs.headline.Tree.{Tree, Number, Negative, Named, MinusNamed, Primitive}
 use Rattle.fv_parse_grammar.specs.headline.Tree.{Group, Abstraction, Case, Iteration, Ports, Switch, Slider}
 use Rattle.fv_parse_grammar.specs.declared.symbol.Operands.{Operands}
 use Rattle.fv_parse_grammar.specs.declared.symbol.Commas.{Commas}
@@ -159,13 +158,13 @@ argument inner ts = do
 -- what a plus in an operand's place begins: a number, or the primitive
 abbrev pub after_plus : ℕ → List Symbol → Step Tree
 after_plus start (Integer n ∷ ts) = Ok (Number start n, ts)
-after_plus start ts = Ok (Primitive start primitives.Add, ts)
+after_plus start ts = Ok (Primitive start (Point Add), ts)
 
 -- what a minus in an operand's place begins: a number, a name, or the primitive
 abbrev pub after_minus : ℕ → List Symbol → Step Tree
 after_minus start (Integer n ∷ ts) = Ok (Negative start n, ts)
 after_minus start (Name n ∷ ts) = Ok (MinusNamed start n, ts)
-after_minus start ts = Ok (Primitive start primitives.Subtract, ts)
+after_minus start ts = Ok (Primitive start (Point Sub), ts)
 
 -- expression ")"
 abbrev pub group : Reader → ℕ → List Symbol → Step Tree
@@ -250,30 +249,28 @@ panel inner start kind ts = do
   x ← enclosed inner insides.Expression text.1
   Ok (Panel start kind text.0 x.0, x.1)
 
--- by what the first token begins: all the tokens, and those after the first
-unfoldable pub by_head : Reader → Head → List Symbol → List Symbol → Step Tree
-by_head inner (heads.Integer n) all ts = Ok (Number (length all) n, ts)
-by_head inner (heads.Name n) all ts = Ok (Named (length all) n, ts)
-by_head inner heads.Plus all ts = after_plus (length all) ts
-by_head inner heads.Minus all ts = after_minus (length all) ts
-by_head inner heads.Wire all ts = Ok (Wire (length all), ts)
-by_head inner heads.Cut all ts = Ok (Cut (length all), ts)
-by_head inner (heads.Primitive p) all ts = Ok (Primitive (length all) p, ts)
-by_head inner heads.Group all ts = group inner (length all) ts
-by_head inner heads.Abstraction all ts = abstraction inner (length all) ts
-by_head inner heads.Case all ts = case_of inner (length all) ts
-by_head inner heads.Waveform all ts = waveform (length all) ts
-by_head inner (heads.Iteration i) all ts = iteration inner (length all) i ts
-by_head inner (heads.Ports s) all ts = ports inner (length all) s ts
-by_head inner (heads.Switch k) all ts = switch (length all) k ts
-by_head inner (heads.Slider k) all ts = slider inner (length all) k ts
-by_head inner (heads.Panel k) all ts = panel inner (length all) k ts
-by_head inner heads.Nothing all ts = Err all
+-- by the first token: it, all the tokens, and those after the first
+unfoldable pub by_first : Reader → Symbol → List Symbol → List Symbol → Step Tree
+by_first inner (Integer n) all ts = Ok (Number (length all) n, ts)
+by_first inner (Name n) all ts = Ok (Named (length all) n, ts)
+by_first inner symbols.Plus all ts = after_plus (length all) ts
+by_first inner symbols.Minus all ts = after_minus (length all) ts
+by_first inner (symbols.Primitive p) all ts = Ok (Primitive (length all) p, ts)
+by_first inner Open all ts = group inner (length all) ts
+by_first inner symbols.Backslash all ts = abstraction inner (length all) ts
+by_first inner symbols.Case all ts = case_of inner (length all) ts
+by_first inner symbols.Waveform all ts = waveform (length all) ts
+by_first inner (symbols.Iteration i) all ts = iteration inner (length all) i ts
+by_first inner (symbols.Ports s) all ts = ports inner (length all) s ts
+by_first inner (symbols.Switch k) all ts = switch (length all) k ts
+by_first inner (symbols.Slider k) all ts = slider inner (length all) k ts
+by_first inner (symbols.Panel k) all ts = panel inner (length all) k ts
+by_first inner t all ts = Err all
 
 -- what stands in an operand's place
 abbrev pub primary : Reader → List Symbol → Step Tree
 primary inner [] = Err []
-primary inner (t ∷ ts) = by_head inner (head t) (t ∷ ts) ts
+primary inner (t ∷ ts) = by_first inner t (t ∷ ts) ts
 
 -- ---- postfix
 -- arguments ")", behind the bracket of an application
@@ -302,19 +299,19 @@ abbrev pub minus_number : ℕ → List Symbol → Step Tree
 minus_number start (Integer n ∷ ts) = Ok (Negative start n, ts)
 minus_number start ts = Err ts
 
--- what stands in a pattern, by what its first token begins
-abbrev pub atom_by_head : Reader → Head → List Symbol → List Symbol → Step Tree
-atom_by_head inner (heads.Integer n) all ts = Ok (Number (length all) n, ts)
-atom_by_head inner (heads.Name n) all ts = Ok (Named (length all) n, ts)
-atom_by_head inner heads.Plus all ts = plus_number (length all) ts
-atom_by_head inner heads.Minus all ts = minus_number (length all) ts
-atom_by_head inner heads.Group all ts = enclosed inner insides.Pattern ts
-atom_by_head inner h all ts = Err all
+-- what stands in a pattern, by its first token
+abbrev pub atom_by_first : Reader → Symbol → List Symbol → List Symbol → Step Tree
+atom_by_first inner (Integer n) all ts = Ok (Number (length all) n, ts)
+atom_by_first inner (Name n) all ts = Ok (Named (length all) n, ts)
+atom_by_first inner symbols.Plus all ts = plus_number (length all) ts
+atom_by_first inner symbols.Minus all ts = minus_number (length all) ts
+atom_by_first inner Open all ts = enclosed inner insides.Pattern ts
+atom_by_first inner t all ts = Err all
 
 -- what stands in a pattern
 abbrev pub atom : Reader → List Symbol → Step Tree
 atom inner [] = Err []
-atom inner (t ∷ ts) = atom_by_head inner (head t) (t ∷ ts) ts
+atom inner (t ∷ ts) = atom_by_first inner t (t ∷ ts) ts
 
 -- what the operators join
 abbrev pub operand : Reader → Operands → List Symbol → Step Tree

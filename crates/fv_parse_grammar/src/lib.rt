@@ -5,6 +5,8 @@ mod form;
 mod laws;
 mod symbol;
 
-pub use form::{Iteration, Literal, Operator, Panel, Primitive, Side, Slider, Switch};
+pub use form::{Literal, Operator};
+pub use fv_lex::{Iteration, Panel, Side, Slider, Switch};
+pub use fv_num::Primitive;
 pub use laws::{reads_what_is_spelled, spelled_once};
-pub use symbol::{Commas, Head, Inside, Items, Mark, Operands};
+pub use symbol::{Commas, Inside, Items, Mark, Operands};

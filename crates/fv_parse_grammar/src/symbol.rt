@@ -1,29 +1,4 @@
-// What the tokens begin, and what stands in brackets and lists.
-
-use crate::form::{Iteration, Panel, Primitive, Side, Slider, Switch};
-
-/// What a token begins, where an operand has to stand.
-#[derive(Clone, Copy, Debug, PartialEq, Eq)]
-pub enum Head {
-    Integer(u32),
-    Name(u64),
-    Plus,
-    Minus,
-    Wire,
-    Cut,
-    Primitive(Primitive),
-    Group,
-    Abstraction,
-    Case,
-    Waveform,
-    Iteration(Iteration),
-    Ports(Side),
-    Switch(Switch),
-    Slider(Slider),
-    Panel(Panel),
-    /// It begins none.
-    Nothing,
-}
+// Signs at fixed places, and what stands in brackets and lists.
 
 /// A sign that a production has at a fixed place.
 #[derive(Clone, Copy, Debug, PartialEq, Eq)]

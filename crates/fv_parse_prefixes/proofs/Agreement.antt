@@ -5,8 +5,7 @@ use Rattle.std.proofs.lemmas.List.{length-append}
 use Rattle.fv_parse_grammar.specs.Symbol.{Symbol}
 use Rattle.fv_parse_grammar.specs.Symbol.TheVariants.{Open, Close, OpenBrace, CloseBrace}
 use Rattle.fv_parse_grammar.specs.declared.symbol.Inside.{Inside}
-use Rattle.fv_parse_grammar.specs.declared.symbol.Head.TheVariants as heads
-use Rattle.fv_parse_grammar.specs.headline.Symbols.{head, power}
+use Rattle.fv_parse_grammar.specs.headline.Symbols.{power}
 use Rattle.fv_parse_grammar.specs.Nesting.{Nests}
 use Rattle.fv_parse_grammar.specs.Descent.{Step, ◌>>=◌, Reader}
 use Rattle.fv_parse_grammar.specs.declared.symbol.Operands.{Operands}
@@ -207,18 +206,6 @@ operator_passing kind comma OpenBrace loose tight = absurd (omega arith)
 operator_passing kind comma Close loose tight = absurd (omega arith)
 operator_passing kind comma CloseBrace loose tight = absurd (omega arith)
 operator_passing kind comma t loose tight = record { passed = λ p low n. (low, n) }
-
--- what begins an operand is no bracket, but for "("
-pub head_passing : {k : Fork} {d : ℕ} (t : Symbol) → (head t ≡ heads.Group → ⊥) → (head t ≡ heads.Nothing → ⊥) → Passing k d d t
-head_passing Open g o = absurd (g refl)
-head_passing OpenBrace g o = absurd (o refl)
-head_passing Close g o = absurd (o refl)
-head_passing CloseBrace g o = absurd (o refl)
-head_passing t g o = record { passed = λ p low n. (low, n) }
-
-pub group_opens : {k : Fork} {d : ℕ} (t : Symbol) → head t ≡ heads.Group → Passing k d (suc d) t
-group_opens Open e = opens
-group_opens t e = absurd cc
 
 -- ---- what stands in brackets
 -- both readers of the inside of brackets agree

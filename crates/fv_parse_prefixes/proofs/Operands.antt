@@ -3,27 +3,22 @@ use Rattle.std.proofs.Common.{◌≡◌, ℕ, List, [], ◌∷◌, Ok, refl, sym
 use Rattle.fv_parse_grammar.specs.Symbol.{Symbol}
 use Rattle.fv_parse_grammar.specs.Symbol.TheVariants.{Name, Integer, Comma, Open, Close, OpenBrace, CloseBrace, Dot}
 use Rattle.fv_parse_grammar.specs.Symbol.TheVariants as symbols
-use Rattle.fv_parse_grammar.specs.declared.form.Iteration.{Iteration as Repetition}
-use Rattle.fv_parse_grammar.specs.declared.form.Side.{Side}
-use Rattle.fv_parse_grammar.specs.declared.form.Switch.{Switch as SwitchKind}
-use Rattle.fv_parse_grammar.specs.declared.form.Slider.{Slider as SliderKind}
-use Rattle.fv_parse_grammar.specs.declared.form.Panel.{Panel as PanelKind}
-use Rattle.fv_parse_grammar.specs.declared.symbol.Head.{Head}
-use Rattle.fv_parse_grammar.specs.declared.symbol.Head.TheVariants as heads
+use Rattle.fv_parse_grammar.specs.Iteration.{Iteration as Repetition}
+use Rattle.fv_parse_grammar.specs.Side.{Side}
+use Rattle.fv_parse_grammar.specs.Switch.{Switch as SwitchKind}
+use Rattle.fv_parse_grammar.specs.Slider.{Slider as SliderKind}
+use Rattle.fv_parse_grammar.specs.Panel.{Panel as PanelKind}
 use Rattle.fv_parse_grammar.specs.declared.symbol.Inside.TheVariants as insides
-use Rattle.fv_parse_grammar.specs.headline.Symbols.{head}
 use Rattle.fv_parse_grammar.specs.headline.Tree.{Tree}
-use Rattle.fv_parse_grammar.specs.headline.Grammar.{Primary, number, plus_number, minus_number, minus_name, named, wire, cut, plus, minus}
+use Rattle.fv_parse_grammar.specs.headline.Grammar.{Primary, number, plus_number, minus_number, minus_name, named, plus, minus}
 use Rattle.fv_parse_grammar.specs.headline.Grammar.{primitive, grouped, abstracted, cased, iterated, ported, switched, slid, paneled}
-use Rattle.fv_parse_grammar.proofs.lemmas.Tokens.{is_integer, is_name, is_plus, is_minus, is_underscore}
-use Rattle.fv_parse_grammar.proofs.lemmas.Tokens.{is_exclamation, is_open, is_backslash, is_case, is_waveform}
 use Rattle.fv_parse_grammar.specs.headline.Grammar.{waved}
 use Rattle.fv_parse_grammar.specs.Descent.{waveform}
 use Rattle.fv_parse_prefixes.proofs.Plans.{counted_all, LiteralList}
 use Rattle.fv_parse_prefixes.proofs.Pieces.{literal_list_reads}
 use Rattle.fv_parse_grammar.specs.Descent as descent
 use Rattle.fv_parse_grammar.specs.declared.symbol.Mark.TheVariants as marks
-use Rattle.fv_parse_grammar.specs.Descent.{Step, ◌>>=◌, Reader, group, abstraction, case_of, iteration, ports, switch, slider, panel, by_head, primary}
+use Rattle.fv_parse_grammar.specs.Descent.{Step, ◌>>=◌, Reader, group, abstraction, case_of, iteration, ports, switch, slider, panel, by_first, primary}
 use Rattle.fv_parse_prefixes.proofs.Plans.{called, worded, called_all, both, signed, Spelled, spelled, Plan, Sign, AName, AText, NameList}
 use Rattle.fv_parse_prefixes.proofs.Plans.{Inner, APrimary, Then, Spans, took, behind, next, made, done, as_plan, unread, one_taken, Reads}
 use Rattle.fv_parse_prefixes.proofs.Pieces.{expect_passes, a_name_reads, a_text_reads, label_reads}
@@ -89,83 +84,79 @@ waveform_reads start ts = as_plan APrimary (headed symbols.Waveform ts
     made (expect_passes marks.CloseBrace xs.1) (λ rest. done))))) is_wave
 
 -- ("par" | "seq" | "sum" | "prod") "(" name "," argument "," expression ")"
-is_iteration : (t : Symbol) (i : Repetition) → head t ≡ heads.Iteration i → (a b : List Symbol)
-    → Spans (Then (Sign t) (Then (Sign Open) (Then AName
+is_iteration : (i : Repetition) (a b : List Symbol)
+    → Spans (Then (Sign (symbols.Iteration i)) (Then (Sign Open) (Then AName
     (Then (Sign Comma) (Then (Then (Inner insides.Argument) (Sign Comma)) (Then (Inner insides.Expression) (Sign Close))))))) a b → Spelled Primary a b
-is_iteration t i h a b (both signed (both signed (both called (both signed (both (both (spelled x) signed) (both (spelled y) signed)))))) =
-    spelled (iterated t i h x y)
+is_iteration i a b (both signed (both signed (both called (both signed (both (both (spelled x) signed) (both (spelled y) signed)))))) =
+    spelled (iterated x y)
 
 iteration_reads : (inner : Reader) → ReadsInside inner
-    → (start : ℕ) (t : Symbol) (i : Repetition) → head t ≡ heads.Iteration i → (ts : List Symbol) → Reads APrimary (t ∷ ts) (iteration inner start i ts)
+    → (start : ℕ) (i : Repetition) (ts : List Symbol) → Reads APrimary (symbols.Iteration i ∷ ts) (iteration inner start i ts)
 unfolding iteration
-iteration_reads inner reads start t i h ts = as_plan APrimary (headed t ts
+iteration_reads inner reads start i ts = as_plan APrimary (headed (symbols.Iteration i) ts
     (next (expect_passes marks.Open ts) (λ opened.
     next (a_name_reads opened) (λ n.
     next (expect_passes marks.Comma n.1) (λ rest.
     next (argument_reads inner reads rest) (λ x.
     made (enclosed_reads inner reads insides.Expression x.1) (λ y. done)))))))
-    (is_iteration t i h)
+    (is_iteration i)
 
 -- ("inputs" | "outputs") "(" expression ")"
-is_port : (t : Symbol) (s : Side) → head t ≡ heads.Ports s
-    → (a b : List Symbol) → Spans (Then (Sign t) (Then (Sign Open) (Then (Inner insides.Expression) (Sign Close)))) a b → Spelled Primary a b
-is_port t s h a b (both signed (both signed (both (spelled x) signed))) = spelled (ported t s h x)
+is_port : (s : Side) (a b : List Symbol)
+    → Spans (Then (Sign (symbols.Ports s)) (Then (Sign Open) (Then (Inner insides.Expression) (Sign Close)))) a b → Spelled Primary a b
+is_port s a b (both signed (both signed (both (spelled x) signed))) = spelled (ported x)
 
 ports_reads : (inner : Reader)
-    → ReadsInside inner → (start : ℕ) (t : Symbol) (s : Side) → head t ≡ heads.Ports s → (ts : List Symbol) → Reads APrimary (t ∷ ts) (ports inner start s ts)
+    → ReadsInside inner → (start : ℕ) (s : Side) (ts : List Symbol) → Reads APrimary (symbols.Ports s ∷ ts) (ports inner start s ts)
 unfolding ports
-ports_reads inner reads start t s h ts = as_plan APrimary (headed t ts
+ports_reads inner reads start s ts = as_plan APrimary (headed (symbols.Ports s) ts
     (next (expect_passes marks.Open ts) (λ opened. made (enclosed_reads inner reads insides.Expression opened) (λ x. done))))
-    (is_port t s h)
+    (is_port s)
 
 -- ("button" | "checkbox") "(" string ")"
-is_switch : (t : Symbol) (k : SwitchKind)
-    → head t ≡ heads.Switch k → (a b : List Symbol) → Spans (Then (Sign t) (Then (Sign Open) (Then AText (Sign Close)))) a b → Spelled Primary a b
-is_switch t k h a b (both signed (both signed (both worded signed))) = spelled (switched t k h)
+is_switch : (k : SwitchKind) (a b : List Symbol) → Spans (Then (Sign (symbols.Switch k)) (Then (Sign Open) (Then AText (Sign Close)))) a b → Spelled Primary a b
+is_switch k a b (both signed (both signed (both worded signed))) = spelled switched
 
-switch_reads : (start : ℕ) (t : Symbol) (k : SwitchKind) → head t ≡ heads.Switch k → (ts : List Symbol) → Reads APrimary (t ∷ ts) (switch start k ts)
+switch_reads : (start : ℕ) (k : SwitchKind) (ts : List Symbol) → Reads APrimary (symbols.Switch k ∷ ts) (switch start k ts)
 unfolding switch
-switch_reads start t k h ts = as_plan APrimary (headed t ts
+switch_reads start k ts = as_plan APrimary (headed (symbols.Switch k) ts
     (next (expect_passes marks.Open ts) (λ opened. next (a_text_reads opened) (λ text. made (expect_passes marks.Close text.1) (λ rest. done)))))
-    (is_switch t k h)
+    (is_switch k)
 
 -- ("hslider" | "vslider" | "nentry") "(" string "," argument "," argument "," argument "," argument ")"
-is_slider : (t : Symbol) (k : SliderKind) → head t ≡ heads.Slider k → (a b : List Symbol)
-    → Spans (Then (Sign t) (Then (Then (Sign Open) (Then AText (Sign Comma))) (Then (Then (Inner insides.Argument) (Sign Comma)) (Then (Then
+is_slider : (k : SliderKind) (a b : List Symbol)
+    → Spans (Then (Sign (symbols.Slider k)) (Then (Then (Sign Open) (Then AText (Sign Comma))) (Then (Then (Inner insides.Argument) (Sign Comma)) (Then (Then
     (Inner insides.Argument) (Sign Comma)) (Then (Then (Inner insides.Argument) (Sign Comma)) (Then (Inner insides.Argument) (Sign Close))))))) a b
     → Spelled Primary a b
-is_slider t k h a b (both signed (both (both signed (both worded signed))
+is_slider k a b (both signed (both (both signed (both worded signed))
     (both (both (spelled x0) signed) (both (both (spelled x1) signed) (both (both (spelled x2) signed) (both (spelled x3) signed)))))) =
-    spelled (slid t k h x0 x1 x2 x3)
+    spelled (slid x0 x1 x2 x3)
 
 slider_reads : (inner : Reader) → ReadsInside inner
-    → (start : ℕ) (t : Symbol) (k : SliderKind) → head t ≡ heads.Slider k → (ts : List Symbol) → Reads APrimary (t ∷ ts) (slider inner start k ts)
+    → (start : ℕ) (k : SliderKind) (ts : List Symbol) → Reads APrimary (symbols.Slider k ∷ ts) (slider inner start k ts)
 unfolding slider
-slider_reads inner reads start t k h ts = as_plan APrimary (headed t ts
+slider_reads inner reads start k ts = as_plan APrimary (headed (symbols.Slider k) ts
     (next (label_reads ts) (λ text.
     next (argument_reads inner reads text.1) (λ x0.
     next (argument_reads inner reads x0.1) (λ x1.
     next (argument_reads inner reads x1.1) (λ x2.
     made (enclosed_reads inner reads insides.Argument x2.1) (λ x3. done)))))))
-    (is_slider t k h)
+    (is_slider k)
 
 -- ("hgroup" | "vgroup" | "tgroup") "(" string "," expression ")"
-is_panel : (t : Symbol) (k : PanelKind) → head t ≡ heads.Panel k → (a b : List Symbol)
-    → Spans (Then (Sign t) (Then (Then (Sign Open) (Then AText (Sign Comma))) (Then (Inner insides.Expression) (Sign Close)))) a b → Spelled Primary a b
-is_panel t k h a b (both signed (both (both signed (both worded signed)) (both (spelled x) signed))) = spelled (paneled t k h x)
+is_panel : (k : PanelKind) (a b : List Symbol) → Spans
+    (Then (Sign (symbols.Panel k)) (Then (Then (Sign Open) (Then AText (Sign Comma))) (Then (Inner insides.Expression) (Sign Close)))) a b
+    → Spelled Primary a b
+is_panel k a b (both signed (both (both signed (both worded signed)) (both (spelled x) signed))) = spelled (paneled x)
 
 panel_reads : (inner : Reader) → ReadsInside inner
-    → (start : ℕ) (t : Symbol) (k : PanelKind) → head t ≡ heads.Panel k → (ts : List Symbol) → Reads APrimary (t ∷ ts) (panel inner start k ts)
+    → (start : ℕ) (k : PanelKind) (ts : List Symbol) → Reads APrimary (symbols.Panel k ∷ ts) (panel inner start k ts)
 unfolding panel
-panel_reads inner reads start t k h ts = as_plan APrimary (headed t ts
+panel_reads inner reads start k ts = as_plan APrimary (headed (symbols.Panel k) ts
     (next (label_reads ts) (λ text. made (enclosed_reads inner reads insides.Expression text.1) (λ x. done))))
-    (is_panel t k h)
+    (is_panel k)
 
 -- ---- by the first token
--- what is read from a token on, at a token that is equal
-pub begun : (p : Plan) (t u : Symbol) (ts : List Symbol) (r : Step Tree) → t ≡ u → Reads p (u ∷ ts) r → Reads p (t ∷ ts) r
-begun p t u ts r e f = subst (λ v. Reads p (v ∷ ts) r) (sym e) f
-
 after_plus_reads : (start : ℕ) (ts : List Symbol) → Reads APrimary (symbols.Plus ∷ ts) (descent.after_plus start ts)
 after_plus_reads start [] = leaf APrimary symbols.Plus [] (λ tail. spelled plus)
 after_plus_reads start (Integer n ∷ ts) = pair APrimary symbols.Plus (Integer n) ts (λ tail. spelled plus_number)
@@ -179,26 +170,24 @@ after_minus_reads start (t ∷ ts) = leaf APrimary symbols.Minus (t ∷ ts) (λ 
 
 -- by a reader that reads inside brackets
 module _ (inner : Reader) (reads : ReadsInside inner) where
-  by_head_reads : (h : Head) (t : Symbol) (ts : List Symbol) → head t ≡ h → Reads APrimary (t ∷ ts) (by_head inner h (t ∷ ts) ts)
-  unfolding by_head
-  by_head_reads (heads.Integer n) t ts h = begun APrimary t (Integer n) ts _ (is_integer t n h) (leaf APrimary (Integer n) ts (λ tail. spelled number))
-  by_head_reads (heads.Name n) t ts h = begun APrimary t (Name n) ts _ (is_name t n h) (leaf APrimary (Name n) ts (λ tail. spelled named))
-  by_head_reads heads.Plus t ts h = begun APrimary t symbols.Plus ts _ (is_plus t h) (after_plus_reads _ ts)
-  by_head_reads heads.Minus t ts h = begun APrimary t symbols.Minus ts _ (is_minus t h) (after_minus_reads _ ts)
-  by_head_reads heads.Wire t ts h = begun APrimary t symbols.Underscore ts _ (is_underscore t h) (leaf APrimary symbols.Underscore ts (λ tail. spelled wire))
-  by_head_reads heads.Cut t ts h = begun APrimary t symbols.Exclamation ts _ (is_exclamation t h) (leaf APrimary symbols.Exclamation ts (λ tail. spelled cut))
-  by_head_reads (heads.Primitive p) t ts h = leaf APrimary t ts (λ tail. spelled (primitive t p h))
-  by_head_reads heads.Group t ts h = begun APrimary t Open ts _ (is_open t h) (group_reads inner reads _ ts)
-  by_head_reads heads.Abstraction t ts h = begun APrimary t symbols.Backslash ts _ (is_backslash t h) (abstraction_reads inner reads _ ts)
-  by_head_reads heads.Case t ts h = begun APrimary t symbols.Case ts _ (is_case t h) (case_reads inner reads _ ts)
-  by_head_reads heads.Waveform t ts h = begun APrimary t symbols.Waveform ts _ (is_waveform t h) (waveform_reads _ ts)
-  by_head_reads (heads.Iteration i) t ts h = iteration_reads inner reads _ t i h ts
-  by_head_reads (heads.Ports s) t ts h = ports_reads inner reads _ t s h ts
-  by_head_reads (heads.Switch k) t ts h = switch_reads _ t k h ts
-  by_head_reads (heads.Slider k) t ts h = slider_reads inner reads _ t k h ts
-  by_head_reads (heads.Panel k) t ts h = panel_reads inner reads _ t k h ts
-  by_head_reads heads.Nothing t ts h = unread APrimary
+  by_first_reads : (t : Symbol) (ts : List Symbol) → Reads APrimary (t ∷ ts) (by_first inner t (t ∷ ts) ts)
+  unfolding by_first
+  by_first_reads (Integer n) ts = leaf APrimary (Integer n) ts (λ tail. spelled number)
+  by_first_reads (Name n) ts = leaf APrimary (Name n) ts (λ tail. spelled named)
+  by_first_reads symbols.Plus ts = after_plus_reads _ ts
+  by_first_reads symbols.Minus ts = after_minus_reads _ ts
+  by_first_reads (symbols.Primitive p) ts = leaf APrimary (symbols.Primitive p) ts (λ tail. spelled primitive)
+  by_first_reads Open ts = group_reads inner reads _ ts
+  by_first_reads symbols.Backslash ts = abstraction_reads inner reads _ ts
+  by_first_reads symbols.Case ts = case_reads inner reads _ ts
+  by_first_reads symbols.Waveform ts = waveform_reads _ ts
+  by_first_reads (symbols.Iteration i) ts = iteration_reads inner reads _ i ts
+  by_first_reads (symbols.Ports s) ts = ports_reads inner reads _ s ts
+  by_first_reads (symbols.Switch k) ts = switch_reads _ k ts
+  by_first_reads (symbols.Slider k) ts = slider_reads inner reads _ k ts
+  by_first_reads (symbols.Panel k) ts = panel_reads inner reads _ k ts
+  by_first_reads t ts = unread APrimary
 
   pub primary_reads : (ts : List Symbol) → Reads APrimary ts (primary inner ts)
   primary_reads [] = unread APrimary
-  primary_reads (t ∷ ts) = by_head_reads (head t) t ts refl
+  primary_reads (t ∷ ts) = by_first_reads t ts

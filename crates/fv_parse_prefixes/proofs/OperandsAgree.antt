@@ -1,20 +1,18 @@
 -- What begins an operand, in two lists that are the same up to and with a token.
 use Rattle.std.proofs.Common.{◌≡◌, ℕ, suc, List, ◌∷◌, length, refl, sym, ◌∙◌}
 use Rattle.fv_parse_grammar.specs.Symbol.{Symbol}
-use Rattle.fv_parse_grammar.specs.Symbol.TheVariants.{Name, Integer}
-use Rattle.fv_parse_grammar.specs.declared.form.Iteration.{Iteration as Repetition}
-use Rattle.fv_parse_grammar.specs.declared.form.Side.{Side}
-use Rattle.fv_parse_grammar.specs.declared.form.Switch.{Switch as SwitchKind}
-use Rattle.fv_parse_grammar.specs.declared.form.Slider.{Slider as SliderKind}
-use Rattle.fv_parse_grammar.specs.declared.form.Panel.{Panel as PanelKind}
-use Rattle.fv_parse_grammar.specs.declared.symbol.Head.{Head}
-use Rattle.fv_parse_grammar.specs.declared.symbol.Head.TheVariants as heads
+use Rattle.fv_parse_grammar.specs.Symbol.TheVariants.{Name, Integer, Open}
+use Rattle.fv_parse_grammar.specs.Symbol.TheVariants as symbols
+use Rattle.fv_parse_grammar.specs.Iteration.{Iteration as Repetition}
+use Rattle.fv_parse_grammar.specs.Side.{Side}
+use Rattle.fv_parse_grammar.specs.Switch.{Switch as SwitchKind}
+use Rattle.fv_parse_grammar.specs.Slider.{Slider as SliderKind}
+use Rattle.fv_parse_grammar.specs.Panel.{Panel as PanelKind}
 use Rattle.fv_parse_grammar.specs.declared.symbol.Inside.TheVariants as insides
-use Rattle.fv_parse_grammar.specs.headline.Symbols.{head}
 use Rattle.fv_parse_grammar.specs.Descent.{Reader, after_plus, after_minus, group, abstraction, case_of}
-use Rattle.fv_parse_grammar.specs.Descent.{iteration, ports, switch, slider, panel, by_head, primary}
+use Rattle.fv_parse_grammar.specs.Descent.{iteration, ports, switch, slider, panel, by_first, primary}
 use Rattle.fv_parse_prefixes.proofs.Agreement.{Fork, Same, BothRead, also, given, halted, Looks, takes, stays_at}
-use Rattle.fv_parse_prefixes.proofs.Agreement.{looked, Passing, no_bracket, head_passing, group_opens, AgreesInside}
+use Rattle.fv_parse_prefixes.proofs.Agreement.{looked, Passing, no_bracket, opens, AgreesInside}
 use Rattle.fv_parse_prefixes.proofs.PiecesAgree.{expect_both, by_open, by_close, by_open_brace, by_close_brace}
 use Rattle.fv_parse_prefixes.proofs.PiecesAgree.{by_comma, by_dot, a_name_both, a_text_both, label_both}
 use Rattle.fv_parse_grammar.specs.Descent.{waveform}
@@ -95,35 +93,28 @@ minus_look start start' (Integer n) ts us = takes _ (no_bracket (λ p n. n)) giv
 minus_look start start' (Name n) ts us = takes _ (no_bracket (λ p n. n)) given
 minus_look start start' t ts us = stays_at given
 
--- a head that is no bracket
-pub begins_operand : {k : Fork} {d : ℕ} (t : Symbol) (h : Head) → head t ≡ h → (h ≡ heads.Group → ⊥) → (h ≡ heads.Nothing → ⊥) → Passing k d d t
-begins_operand t h e g o = head_passing t (λ x. g (sym e ∙ x)) (λ x. o (sym e ∙ x))
-
 -- by readers that agree inside brackets
 module _ {k : Fork} {d : ℕ} {inner inner' : Reader} (inside : AgreesInside k (suc d) inner inner') where
-  head_look : (h : Head) (t : Symbol)
-      → head t ≡ h → (ts us : List Symbol) → Looks k d d (λ x. x.1) t ts us (by_head inner h (t ∷ ts) ts) (by_head inner' h (t ∷ us) us)
-  unfolding by_head
-  head_look (heads.Integer n) t h ts us = takes _ (begins_operand t _ h (λ x. cc) (λ x. cc)) given
-  head_look (heads.Name n) t h ts us = takes _ (begins_operand t _ h (λ x. cc) (λ x. cc)) given
-  head_look heads.Plus t h ts us =
-      takes _ (begins_operand t _ h (λ x. cc) (λ x. cc)) (λ s. looked (after_plus (length (t ∷ ts))) (after_plus (length (t ∷ us))) refl (plus_look _ _) s)
-  head_look heads.Minus t h ts us =
-      takes _ (begins_operand t _ h (λ x. cc) (λ x. cc)) (λ s. looked (after_minus (length (t ∷ ts))) (after_minus (length (t ∷ us))) refl (minus_look _ _) s)
-  head_look heads.Wire t h ts us = takes _ (begins_operand t _ h (λ x. cc) (λ x. cc)) given
-  head_look heads.Cut t h ts us = takes _ (begins_operand t _ h (λ x. cc) (λ x. cc)) given
-  head_look (heads.Primitive p) t h ts us = takes _ (begins_operand t _ h (λ x. cc) (λ x. cc)) given
-  head_look heads.Group t h ts us = takes _ (group_opens t h) (λ s. group_both inside _ _ s)
-  head_look heads.Abstraction t h ts us = takes _ (begins_operand t _ h (λ x. cc) (λ x. cc)) (λ s. abstraction_both inside _ _ s)
-  head_look heads.Case t h ts us = takes _ (begins_operand t _ h (λ x. cc) (λ x. cc)) (λ s. case_both inside _ _ s)
-  head_look heads.Waveform t h ts us = takes _ (begins_operand t _ h (λ x. cc) (λ x. cc)) (λ s. waveform_both _ _ s)
-  head_look (heads.Iteration i) t h ts us = takes _ (begins_operand t _ h (λ x. cc) (λ x. cc)) (λ s. iteration_both inside _ _ i s)
-  head_look (heads.Ports side) t h ts us = takes _ (begins_operand t _ h (λ x. cc) (λ x. cc)) (λ s. ports_both inside _ _ side s)
-  head_look (heads.Switch kind) t h ts us = takes _ (begins_operand t _ h (λ x. cc) (λ x. cc)) (λ s. switch_both _ _ kind s)
-  head_look (heads.Slider kind) t h ts us = takes _ (begins_operand t _ h (λ x. cc) (λ x. cc)) (λ s. slider_both inside _ _ kind s)
-  head_look (heads.Panel kind) t h ts us = takes _ (begins_operand t _ h (λ x. cc) (λ x. cc)) (λ s. panel_both inside _ _ kind s)
-  head_look heads.Nothing t h ts us = stays_at halted
+  first_look : (t : Symbol) (ts us : List Symbol) → Looks k d d (λ x. x.1) t ts us (by_first inner t (t ∷ ts) ts) (by_first inner' t (t ∷ us) us)
+  unfolding by_first
+  first_look (Integer n) ts us = takes _ (no_bracket (λ p n. n)) given
+  first_look (Name n) ts us = takes _ (no_bracket (λ p n. n)) given
+  first_look symbols.Plus ts us = takes _ (no_bracket (λ p n. n))
+      (λ s. looked (after_plus (length (symbols.Plus ∷ ts))) (after_plus (length (symbols.Plus ∷ us))) refl (plus_look _ _) s)
+  first_look symbols.Minus ts us = takes _ (no_bracket (λ p n. n))
+      (λ s. looked (after_minus (length (symbols.Minus ∷ ts))) (after_minus (length (symbols.Minus ∷ us))) refl (minus_look _ _) s)
+  first_look (symbols.Primitive p) ts us = takes _ (no_bracket (λ p n. n)) given
+  first_look Open ts us = takes _ opens (λ s. group_both inside _ _ s)
+  first_look symbols.Backslash ts us = takes _ (no_bracket (λ p n. n)) (λ s. abstraction_both inside _ _ s)
+  first_look symbols.Case ts us = takes _ (no_bracket (λ p n. n)) (λ s. case_both inside _ _ s)
+  first_look symbols.Waveform ts us = takes _ (no_bracket (λ p n. n)) (λ s. waveform_both _ _ s)
+  first_look (symbols.Iteration i) ts us = takes _ (no_bracket (λ p n. n)) (λ s. iteration_both inside _ _ i s)
+  first_look (symbols.Ports side) ts us = takes _ (no_bracket (λ p n. n)) (λ s. ports_both inside _ _ side s)
+  first_look (symbols.Switch kind) ts us = takes _ (no_bracket (λ p n. n)) (λ s. switch_both _ _ kind s)
+  first_look (symbols.Slider kind) ts us = takes _ (no_bracket (λ p n. n)) (λ s. slider_both inside _ _ kind s)
+  first_look (symbols.Panel kind) ts us = takes _ (no_bracket (λ p n. n)) (λ s. panel_both inside _ _ kind s)
+  first_look t ts us = stays_at halted
 
   pub primary_both : {ts us : List Symbol} → Same k d ts us → BothRead k d ts (primary inner ts) (primary inner' us)
   primary_both same =
-      looked (primary inner) (primary inner') refl (λ t ts us. head_look (head t) t refl ts us) same
+      looked (primary inner) (primary inner') refl first_look same

@@ -5,23 +5,20 @@ use Rattle.std.proofs.lemmas.Bool.{eqb-true}
 use Rattle.fv_parse_grammar.specs.Symbol.{Symbol}
 use Rattle.fv_parse_grammar.specs.Symbol.TheVariants.{Name, Integer, Open, Close, OpenBrace, CloseBrace, With, Tick}
 use Rattle.fv_parse_grammar.specs.Symbol.TheVariants as symbols
-use Rattle.fv_parse_grammar.specs.declared.symbol.Head.{Head}
-use Rattle.fv_parse_grammar.specs.declared.symbol.Head.TheVariants as heads
 use Rattle.fv_parse_grammar.specs.declared.symbol.Inside.TheVariants as insides
-use Rattle.fv_parse_grammar.specs.headline.Symbols.{head, power, is_left}
+use Rattle.fv_parse_grammar.specs.headline.Symbols.{power, is_left}
 use Rattle.fv_parse_grammar.specs.headline.Tree.{Tree}
 use Rattle.fv_parse_grammar.specs.headline.Grammar.{Expression, Phrase, Postfix, Atom, plain, qualified, tighter, leftward, rightward, operand, pattern_operand}
 use Rattle.fv_parse_grammar.specs.headline.Grammar.{bare, delayed, applied, atom_number, atom_plus_number, atom_minus_number, atom_name, atom_grouped}
 use Rattle.fv_parse_grammar.specs.Descent as descent
 use Rattle.fv_parse_grammar.specs.declared.symbol.Mark.TheVariants as marks
-use Rattle.fv_parse_grammar.specs.Descent.{Step, ◌>>=◌, Reader, power_at, postfix, postfix_turn, atom_by_head}
+use Rattle.fv_parse_grammar.specs.Descent.{Step, ◌>>=◌, Reader, power_at, postfix, postfix_turn, atom_by_first}
 use Rattle.fv_parse_grammar.specs.Descent.{atom, rights, chain, phrase, left_turn, expression, with_turn}
 use Rattle.fv_parse_prefixes.proofs.Plans.{both, nought, signed, Onward, stay, onward, Spelled, spelled, Nothing, Sign, Inner}
 use Rattle.fv_parse_prefixes.proofs.Plans.{Joined, APostfix, APrimary, AnAtom, GoesOn, Then, Spans, Takes, stuck, behind, next}
 use Rattle.fv_parse_prefixes.proofs.Plans.{made, done, joins, as_takes, as_plan, onward_from, unread, one_taken, by_test, Reads}
 use Rattle.fv_parse_prefixes.proofs.Pieces.{expect_passes, ReadsInside, enclosed_reads}
-use Rattle.fv_parse_grammar.proofs.lemmas.Tokens.{is_integer, is_name, is_plus, is_minus, is_open}
-use Rattle.fv_parse_prefixes.proofs.Operands.{headed, leaf, pair, begun, primary_reads}
+use Rattle.fv_parse_prefixes.proofs.Operands.{headed, leaf, pair, primary_reads}
 use Rattle.fv_parse_prefixes.proofs.Turns.{Turns, no_turn, one_turn, turn_of, turn_by_test, run_reads}
 use Rattle.fv_parse_grammar.specs.declared.symbol.Operands.{Operands}
 use Rattle.fv_parse_grammar.specs.declared.symbol.Commas.{Commas}
@@ -73,18 +70,17 @@ is_atom_group a b (both signed (both (spelled x) signed)) = spelled (atom_groupe
 
 -- by a reader that reads inside brackets
 module _ (inner : Reader) (reads : ReadsInside inner) where
-  atom_by_head_reads : (h : Head) (t : Symbol) (ts : List Symbol) → head t ≡ h → Reads AnAtom (t ∷ ts) (atom_by_head inner h (t ∷ ts) ts)
-  atom_by_head_reads (heads.Integer n) t ts h = begun AnAtom t (Integer n) ts _ (is_integer t n h) (leaf AnAtom (Integer n) ts (λ tail. spelled atom_number))
-  atom_by_head_reads (heads.Name n) t ts h = begun AnAtom t (Name n) ts _ (is_name t n h) (leaf AnAtom (Name n) ts (λ tail. spelled atom_name))
-  atom_by_head_reads heads.Plus t ts h = begun AnAtom t symbols.Plus ts _ (is_plus t h) (plus_number_reads _ ts)
-  atom_by_head_reads heads.Minus t ts h = begun AnAtom t symbols.Minus ts _ (is_minus t h) (minus_number_reads _ ts)
-  atom_by_head_reads heads.Group t ts h =
-      begun AnAtom t Open ts _ (is_open t h) (as_plan AnAtom (headed Open ts (enclosed_reads inner reads insides.Pattern ts)) is_atom_group)
-  atom_by_head_reads other t ts h = unread AnAtom
+  atom_by_first_reads : (t : Symbol) (ts : List Symbol) → Reads AnAtom (t ∷ ts) (atom_by_first inner t (t ∷ ts) ts)
+  atom_by_first_reads (Integer n) ts = leaf AnAtom (Integer n) ts (λ tail. spelled atom_number)
+  atom_by_first_reads (Name n) ts = leaf AnAtom (Name n) ts (λ tail. spelled atom_name)
+  atom_by_first_reads symbols.Plus ts = plus_number_reads _ ts
+  atom_by_first_reads symbols.Minus ts = minus_number_reads _ ts
+  atom_by_first_reads Open ts = as_plan AnAtom (headed Open ts (enclosed_reads inner reads insides.Pattern ts)) is_atom_group
+  atom_by_first_reads t ts = unread AnAtom
 
   atom_reads : (ts : List Symbol) → Reads AnAtom ts (atom inner ts)
   atom_reads [] = unread AnAtom
-  atom_reads (t ∷ ts) = atom_by_head_reads (head t) t ts refl
+  atom_reads (t ∷ ts) = atom_by_first_reads t ts
 
 is_operand : (comma : Commas) (a b : List Symbol) → Spans APostfix a b → Spelled (Phrase operands.Expressions comma zero) a b
 is_operand comma a b (spelled x) = spelled (operand x)

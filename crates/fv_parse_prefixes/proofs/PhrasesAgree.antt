@@ -3,20 +3,19 @@ use Rattle.std.proofs.Common.{◌≡◌, ℕ, zero, suc, ◌≤◌, ◌<◌, tru
 use Rattle.std.specs.Prelude.{nat_eq}
 use Rattle.std.proofs.lemmas.Bool.{eqb-true}
 use Rattle.fv_parse_grammar.specs.Symbol.{Symbol}
-use Rattle.fv_parse_grammar.specs.Symbol.TheVariants.{Integer, Open, With, Tick}
-use Rattle.fv_parse_grammar.specs.declared.symbol.Head.{Head}
-use Rattle.fv_parse_grammar.specs.declared.symbol.Head.TheVariants as heads
+use Rattle.fv_parse_grammar.specs.Symbol.TheVariants.{Name, Integer, Open, With, Tick}
+use Rattle.fv_parse_grammar.specs.Symbol.TheVariants as symbols
 use Rattle.fv_parse_grammar.specs.declared.symbol.Inside.TheVariants as insides
-use Rattle.fv_parse_grammar.specs.headline.Symbols.{head, power, operator, is_left}
+use Rattle.fv_parse_grammar.specs.headline.Symbols.{power, operator, is_left}
 use Rattle.fv_parse_grammar.specs.headline.Tree.{Tree, Delayed, Apply, Binary, Where}
 use Rattle.fv_parse_grammar.specs.declared.symbol.Mark.TheVariants as marks
 use Rattle.fv_parse_grammar.specs.Descent.{Step, ◌>>=◌, Turn, Done, turn, run, Reader, power_at, expect, enclosed, plus_number, minus_number}
-use Rattle.fv_parse_grammar.specs.Descent.{postfix, postfix_turn, atom_by_head, atom, operand, chain, phrase, left_turn, expression, with_turn}
+use Rattle.fv_parse_grammar.specs.Descent.{postfix, postfix_turn, atom_by_first, atom, operand, chain, phrase, left_turn, expression, with_turn}
 use Rattle.fv_parse_grammar.proofs.lemmas.Loops.{run_next, run_done, run_stop, joined, chain_next, chain_done, chain_stop}
 use Rattle.fv_parse_prefixes.proofs.Agreement.{Fork, Same, remains, BothRead, also, given, halted, both_test, of_test, of_equal, unrolled, Looks}
-use Rattle.fv_parse_prefixes.proofs.Agreement.{takes, stays_at, looked, looked_among, opens, no_bracket, operator_passing, group_opens, AgreesInside}
+use Rattle.fv_parse_prefixes.proofs.Agreement.{takes, stays_at, looked, looked_among, opens, no_bracket, operator_passing, AgreesInside}
 use Rattle.fv_parse_prefixes.proofs.PiecesAgree.{expect_both, by_open_brace, by_close_brace, enclosed_both}
-use Rattle.fv_parse_prefixes.proofs.OperandsAgree.{begins_operand, primary_both}
+use Rattle.fv_parse_prefixes.proofs.OperandsAgree.{primary_both}
 use Rattle.fv_parse_grammar.specs.declared.symbol.Operands.{Operands}
 use Rattle.fv_parse_grammar.specs.declared.symbol.Commas.{Commas}
 use Rattle.fv_parse_grammar.specs.declared.symbol.Operands.TheVariants as operands
@@ -86,19 +85,19 @@ minus_look start start' t ts us = stays_at halted
 
 -- by readers that agree inside brackets
 module _ {k : Fork} {d : ℕ} {inner inner' : Reader} (inside : AgreesInside k (suc d) inner inner') where
-  atom_look : (h : Head) (t : Symbol)
-      → head t ≡ h → (ts us : List Symbol) → Looks k d d (λ x. x.1) t ts us (atom_by_head inner h (t ∷ ts) ts) (atom_by_head inner' h (t ∷ us) us)
-  atom_look (heads.Integer n) t h ts us = takes _ (begins_operand t _ h (λ x. cc) (λ x. cc)) given
-  atom_look (heads.Name n) t h ts us = takes _ (begins_operand t _ h (λ x. cc) (λ x. cc)) given
-  atom_look heads.Plus t h ts us =
-      takes _ (begins_operand t _ h (λ x. cc) (λ x. cc)) (λ s. looked (plus_number (length (t ∷ ts))) (plus_number (length (t ∷ us))) refl (plus_look _ _) s)
-  atom_look heads.Minus t h ts us =
-      takes _ (begins_operand t _ h (λ x. cc) (λ x. cc)) (λ s. looked (minus_number (length (t ∷ ts))) (minus_number (length (t ∷ us))) refl (minus_look _ _) s)
-  atom_look heads.Group t h ts us = takes _ (group_opens t h) (λ s. enclosed_both inside insides.Pattern s)
-  atom_look other t h ts us = stays_at halted
+  atom_look : (t : Symbol) (ts us : List Symbol)
+      → Looks k d d (λ x. x.1) t ts us (atom_by_first inner t (t ∷ ts) ts) (atom_by_first inner' t (t ∷ us) us)
+  atom_look (Integer n) ts us = takes _ (no_bracket (λ p n. n)) given
+  atom_look (Name n) ts us = takes _ (no_bracket (λ p n. n)) given
+  atom_look symbols.Plus ts us = takes _ (no_bracket (λ p n. n))
+      (λ s. looked (plus_number (length (symbols.Plus ∷ ts))) (plus_number (length (symbols.Plus ∷ us))) refl (plus_look _ _) s)
+  atom_look symbols.Minus ts us = takes _ (no_bracket (λ p n. n))
+      (λ s. looked (minus_number (length (symbols.Minus ∷ ts))) (minus_number (length (symbols.Minus ∷ us))) refl (minus_look _ _) s)
+  atom_look Open ts us = takes _ opens (λ s. enclosed_both inside insides.Pattern s)
+  atom_look t ts us = stays_at halted
 
   atom_both : {ts us : List Symbol} → Same k d ts us → BothRead k d ts (atom inner ts) (atom inner' us)
-  atom_both same = looked (atom inner) (atom inner') refl (λ t ts us. atom_look (head t) t refl ts us) same
+  atom_both same = looked (atom inner) (atom inner') refl atom_look same
 
   operand_both : (kind : Operands) {ts us : List Symbol} → Same k d ts us → BothRead k d ts (operand inner kind ts) (operand inner' kind us)
   operand_both operands.Patterns same = atom_both same

@@ -126,17 +126,19 @@ fn refusals(rt: HostRuntime) -> Result<(), Fail> {
 static FORMS: [(&[u8], &str); 13] = [
     (
         b"process = 1 + 2 * -3;",
-        "Number(1) Number(2) Negative(3) Binary(Infix(Multiply), TreeId(1), TreeId(2)) Binary(Infix(Add), TreeId(0), TreeId(3)) Constant(0, TreeId(4)) \
+        "Number(1) Number(2) Negative(3) Binary(Infix(Point(Mul)), TreeId(1), TreeId(2)) Binary(Infix(Point(Add)), TreeId(0), TreeId(3)) \
+         Constant(0, TreeId(4)) \
          List([TreeId(5)])",
     ),
     (
         b"process = 1 - 2 - 3 < 4;",
-        "Number(1) Number(2) Binary(Infix(Subtract), TreeId(0), TreeId(1)) Number(3) Binary(Infix(Subtract), TreeId(2), TreeId(3)) Number(4) \
-         Binary(Infix(Less), TreeId(4), TreeId(5)) Constant(0, TreeId(6)) List([TreeId(7)])",
+        "Number(1) Number(2) Binary(Infix(Point(Sub)), TreeId(0), TreeId(1)) Number(3) Binary(Infix(Point(Sub)), TreeId(2), TreeId(3)) Number(4) \
+         Binary(Infix(Point(Lt)), TreeId(4), TreeId(5)) Constant(0, TreeId(6)) List([TreeId(7)])",
     ),
     (
         b"process = _ : _ , ! : mem ~ _;",
-        "Wire Wire Cut Binary(Parallel, TreeId(1), TreeId(2)) Primitive(Mem) Wire Binary(Recursion, TreeId(4), TreeId(5)) \
+        "Primitive(Wire) Primitive(Wire) Primitive(Cut) Binary(Parallel, TreeId(1), TreeId(2)) Primitive(Mem) Primitive(Wire) Binary(Recursion, \
+         TreeId(4), TreeId(5)) \
          Binary(Sequence, TreeId(3), TreeId(6)) Binary(Sequence, TreeId(0), TreeId(7)) Constant(0, TreeId(8)) List([TreeId(9)])",
     ),
     (
@@ -157,12 +159,14 @@ static FORMS: [(&[u8], &str); 13] = [
     ),
     (
         b"process = \\(x,y).((x) - +);",
-        "Named(11) Group(TreeId(0)) Primitive(Add) Binary(Infix(Subtract), TreeId(1), TreeId(2)) Abstraction([4, 6], TreeId(3)) Constant(0, TreeId(4)) \
+        "Named(11) Group(TreeId(0)) Primitive(Point(Add)) Binary(Infix(Point(Sub)), TreeId(1), TreeId(2)) Abstraction([4, 6], TreeId(3)) \
+         Constant(0, TreeId(4)) \
          List([TreeId(5)])",
     ),
     (
         b"process = case { (0, x : y) => +1; (((z)), w) => -2; };",
-        "Number(0) Named(7) Named(9) Binary(Sequence, TreeId(1), TreeId(2)) List([TreeId(0), TreeId(3)]) Number(1) Rule(TreeId(4), TreeId(5)) Named(18) \
+        "Number(0) Named(7) Named(9) Binary(Sequence, TreeId(1), TreeId(2)) List([TreeId(0), TreeId(3)]) Number(1) Rule(TreeId(4), TreeId(5)) \
+         Named(18) \
          Named(22) List([TreeId(7), TreeId(8)]) Negative(2) Rule(TreeId(9), TreeId(10)) List([TreeId(6), TreeId(11)]) Case(TreeId(12)) \
          Constant(0, TreeId(13)) List([TreeId(14)])",
     ),
@@ -173,7 +177,8 @@ static FORMS: [(&[u8], &str); 13] = [
     ),
     (
         b"process = inputs(_), outputs(!), button(\"a\"), checkbox(\"b\");",
-        "Wire Ports(Inputs, TreeId(0)) Cut Ports(Outputs, TreeId(2)) Switch(Button, 14) Switch(Checkbox, 19) Binary(Parallel, TreeId(4), TreeId(5)) \
+        "Primitive(Wire) Ports(Inputs, TreeId(0)) Primitive(Cut) Ports(Outputs, TreeId(2)) Switch(Button, 14) Switch(Checkbox, 19) Binary(Parallel, \
+         TreeId(4), TreeId(5)) \
          Binary(Parallel, TreeId(3), TreeId(6)) Binary(Parallel, TreeId(1), TreeId(7)) Constant(0, TreeId(8)) List([TreeId(9)])",
     ),
     (
@@ -197,41 +202,46 @@ fn forms(rt: HostRuntime) -> Result<(), Fail> {
 static OPERATORS: [(&[u8], &str); 7] = [
     (
         b"process = 1 @ 2 * 3 / 4 % 5 & 6 xor 7 << 8 >> 9;",
-        "Number(1) Number(2) Binary(Infix(Delay), TreeId(0), TreeId(1)) Number(3) Binary(Infix(Multiply), TreeId(2), TreeId(3)) Number(4) \
-         Binary(Infix(Divide), TreeId(4), TreeId(5)) Number(5) Binary(Infix(Remainder), TreeId(6), TreeId(7)) Number(6) \
-         Binary(Infix(And), TreeId(8), TreeId(9)) Number(7) Binary(Infix(Xor), TreeId(10), TreeId(11)) Number(8) \
-         Binary(Infix(ShiftLeft), TreeId(12), TreeId(13)) Number(9) Binary(Infix(ShiftRight), TreeId(14), TreeId(15)) Constant(0, TreeId(16)) \
+        "Number(1) Number(2) Binary(Infix(Delay), TreeId(0), TreeId(1)) Number(3) Binary(Infix(Point(Mul)), TreeId(2), TreeId(3)) Number(4) \
+         Binary(Infix(Point(Div)), TreeId(4), TreeId(5)) Number(5) Binary(Infix(Point(Rem)), TreeId(6), TreeId(7)) Number(6) \
+         Binary(Infix(Point(And)), TreeId(8), TreeId(9)) Number(7) Binary(Infix(Point(Xor)), TreeId(10), TreeId(11)) Number(8) \
+         Binary(Infix(Point(Shl)), TreeId(12), TreeId(13)) Number(9) Binary(Infix(Point(Shr)), TreeId(14), TreeId(15)) Constant(0, TreeId(16)) \
          List([TreeId(17)])",
     ),
     (
         b"process = 1 | 2 < 3 <= 4 > 5 >= 6 == 7 != 8;",
-        "Number(1) Number(2) Binary(Infix(Or), TreeId(0), TreeId(1)) Number(3) Binary(Infix(Less), TreeId(2), TreeId(3)) Number(4) \
-         Binary(Infix(LessEqual), TreeId(4), TreeId(5)) Number(5) Binary(Infix(Greater), TreeId(6), TreeId(7)) Number(6) \
-         Binary(Infix(GreaterEqual), TreeId(8), TreeId(9)) Number(7) Binary(Infix(Equal), TreeId(10), TreeId(11)) Number(8) \
-         Binary(Infix(NotEqual), TreeId(12), TreeId(13)) Constant(0, TreeId(14)) List([TreeId(15)])",
+        "Number(1) Number(2) Binary(Infix(Point(Or)), TreeId(0), TreeId(1)) Number(3) Binary(Infix(Point(Lt)), TreeId(2), TreeId(3)) Number(4) \
+         Binary(Infix(Point(Le)), TreeId(4), TreeId(5)) Number(5) Binary(Infix(Point(Gt)), TreeId(6), TreeId(7)) Number(6) \
+         Binary(Infix(Point(Ge)), TreeId(8), TreeId(9)) Number(7) Binary(Infix(Point(Eq)), TreeId(10), TreeId(11)) Number(8) \
+         Binary(Infix(Point(Ne)), TreeId(12), TreeId(13)) Constant(0, TreeId(14)) List([TreeId(15)])",
     ),
     (
         b"process = f(*, /, %, &, |, xor, <<, >>);",
-        "Named(2) Primitive(Multiply) Primitive(Divide) Primitive(Remainder) Primitive(And) Primitive(Or) Primitive(Xor) Primitive(ShiftLeft) \
-         Primitive(ShiftRight) List([TreeId(1), TreeId(2), TreeId(3), TreeId(4), TreeId(5), TreeId(6), TreeId(7), TreeId(8)]) \
+        "Named(2) Primitive(Point(Mul)) Primitive(Point(Div)) Primitive(Point(Rem)) Primitive(Point(And)) Primitive(Point(Or)) \
+         Primitive(Point(Xor)) Primitive(Point(Shl)) \
+         Primitive(Point(Shr)) List([TreeId(1), TreeId(2), TreeId(3), TreeId(4), TreeId(5), TreeId(6), TreeId(7), TreeId(8)]) \
          Apply(TreeId(0), TreeId(9)) Constant(0, TreeId(10)) List([TreeId(11)])",
     ),
     (
         b"process = f(<, <=, >, >=, ==, !=, @, -);",
-        "Named(2) Primitive(Less) Primitive(LessEqual) Primitive(Greater) Primitive(GreaterEqual) Primitive(Equal) Primitive(NotEqual) Primitive(Delay) \
-         Primitive(Subtract) List([TreeId(1), TreeId(2), TreeId(3), TreeId(4), TreeId(5), TreeId(6), TreeId(7), TreeId(8)]) Apply(TreeId(0), TreeId(9)) \
+        "Named(2) Primitive(Point(Lt)) Primitive(Point(Le)) Primitive(Point(Gt)) Primitive(Point(Ge)) Primitive(Point(Eq)) Primitive(Point(Ne)) \
+         Primitive(Delay) \
+         Primitive(Point(Sub)) List([TreeId(1), TreeId(2), TreeId(3), TreeId(4), TreeId(5), TreeId(6), TreeId(7), TreeId(8)]) Apply(TreeId(0), \
+         TreeId(9)) \
          Constant(0, TreeId(10)) List([TreeId(11)])",
     ),
     (
         b"process = f(prefix, int, attach, select2, select3, min, max, abs);",
-        "Named(2) Primitive(Prefix) Primitive(Int) Primitive(Attach) Primitive(Select2) Primitive(Select3) Primitive(Min) Primitive(Max) Primitive(Abs) \
+        "Named(2) Primitive(Prefix) Primitive(Int) Primitive(Attach) Primitive(Point(Select2)) Primitive(Point(Select3)) Primitive(Point(Min)) \
+         Primitive(Point(Max)) Primitive(Point(Abs)) \
          List([TreeId(1), TreeId(2), TreeId(3), TreeId(4), TreeId(5), TreeId(6), TreeId(7), TreeId(8)]) Apply(TreeId(0), TreeId(9)) \
          Constant(0, TreeId(10)) List([TreeId(11)])",
     ),
     (
         b"process = vgroup(\"v\", tgroup(\"t\", hslider(\"h\", 1, 2, 3, 4) + nentry(\"n\", 5, 6, 7, 8)));",
         "Number(1) Number(2) Number(3) Number(4) Slider(Horizontal, 12, TreeId(0), TreeId(1), TreeId(2), TreeId(3)) Number(5) Number(6) Number(7) \
-         Number(8) Slider(Number, 25, TreeId(5), TreeId(6), TreeId(7), TreeId(8)) Binary(Infix(Add), TreeId(4), TreeId(9)) Panel(Tabs, 8, TreeId(10)) \
+         Number(8) Slider(Number, 25, TreeId(5), TreeId(6), TreeId(7), TreeId(8)) Binary(Infix(Point(Add)), TreeId(4), TreeId(9)) Panel(Tabs, 8, \
+         TreeId(10)) \
          Panel(Vertical, 4, TreeId(11)) Constant(0, TreeId(12)) List([TreeId(13)])",
     ),
     (

@@ -7,7 +7,7 @@ use Rattle.fv_parse_tree.specs.declared.node.TreeNode.{TreeNode}
 use Rattle.fv_parse_tree.specs.declared.node.TreeNode.TheVariants as nodes
 use Rattle.fv_parse_tree.specs.declared.arena.Entry.{Entry}
 use Rattle.fv_parse_tree.specs.declared.pending.Pending.{Pending}
-use Rattle.fv_parse_grammar.specs.headline.Tree.{Tree, Number, Negative, Named, MinusNamed, Wire, Cut, Primitive, Group, Abstraction, Case, Waveform, Iteration}
+use Rattle.fv_parse_grammar.specs.headline.Tree.{Tree, Number, Negative, Named, MinusNamed, Primitive, Group, Abstraction, Case, Waveform, Iteration}
 use Rattle.fv_parse_grammar.specs.headline.Tree.{Ports, Switch, Slider, Panel, Delayed, Apply, Binary, Where, Rule, Constant, Function, End, More}
 
 -- the tree with this number
@@ -25,8 +25,6 @@ tree_of trees (nodes.Number n) start = Number start n
 tree_of trees (nodes.Negative n) start = Negative start n
 tree_of trees (nodes.Named n) start = Named start n
 tree_of trees (nodes.MinusNamed n) start = MinusNamed start n
-tree_of trees nodes.Wire start = Wire start
-tree_of trees nodes.Cut start = Cut start
 tree_of trees (nodes.Primitive p) start = Primitive start p
 tree_of trees (nodes.Group x) start = Group start (tree_at trees x)
 tree_of trees (nodes.Abstraction ns x) start = Abstraction start ns.items (tree_at trees x)

@@ -1,3 +1,2 @@
 pub mod Arena
 pub mod Gives
-pub mod inner

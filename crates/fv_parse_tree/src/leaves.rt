@@ -7,6 +7,7 @@ ghost use Rattle.fv_parse_tree.specs.Gives.{Gives};
 use crate::node::{TreeId, TreeNode};
 use crate::reader::{Reader, Stop};
 use fv_lex::Symbol;
+use fv_num::Op;
 use fv_parse_grammar::{Mark, Primitive, Switch};
 
 impl Reader<'_> {
@@ -20,7 +21,10 @@ impl Reader<'_> {
                 self.symbols.rest = after;
                 Ok(self.arena.push(TreeNode::Number(*n), start)?)
             }
-            _ => Ok(self.arena.push(TreeNode::Primitive(Primitive::Add), start)?),
+            _ => Ok(
+                self.arena
+                    .push(TreeNode::Primitive(Primitive::Point(Op::Add)), start)?,
+            ),
         }
     }
 
@@ -40,7 +44,7 @@ impl Reader<'_> {
             }
             _ => Ok(
                 self.arena
-                    .push(TreeNode::Primitive(Primitive::Subtract), start)?,
+                    .push(TreeNode::Primitive(Primitive::Point(Op::Sub)), start)?,
             ),
         }
     }

@@ -45,10 +45,6 @@ pub enum TreeNode {
     Named(u64),
     /// `-` and a name.
     MinusNamed(u64),
-    /// `_`
-    Wire,
-    /// `!`
-    Cut,
     Primitive(Primitive),
     /// An expression in parentheses.
     Group(TreeId),

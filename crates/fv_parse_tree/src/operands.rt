@@ -4,19 +4,16 @@
 ghost use Rattle.std.specs.Prelude.{◌≡◌, ◌-◌, ◌<◌, ◌≤◌, ◌∷◌, true, false, length, OnOk, IfOk, OnSome};
 ghost use Rattle.fv_parse_grammar.specs.declared.symbol.Inside.TheVariants as insides;
 ghost use Rattle.fv_parse_grammar.specs.declared.symbol.Items.TheVariants.{Rules, Parts};
-ghost use Rattle.fv_parse_grammar.specs.Descent.{within, enclosed, argument, group, abstraction, case_of, iteration, ports, slider, panel, by_head, primary};
-ghost use Rattle.fv_parse_grammar.specs.Descent.{applied_to, postfix_turn, postfix, atom_by_head, operand, run};
+ghost use Rattle.fv_parse_grammar.specs.Descent.{within, enclosed, argument, group, abstraction, case_of, iteration, ports, slider, panel, by_first, primary};
+ghost use Rattle.fv_parse_grammar.specs.Descent.{applied_to, postfix_turn, postfix, atom_by_first, operand, run};
 ghost use Rattle.fv_parse_tree.specs.Arena.{tree_at, trees};
 ghost use Rattle.fv_parse_tree.specs.Gives.{Gives, GivesTurn};
 
 use crate::node::{TreeId, TreeNode};
 use crate::phrases::LOOSEST;
 use crate::reader::{Reader, Stop};
-use crate::tables::head;
 use fv_lex::Symbol;
-use fv_parse_grammar::{
-    Commas, Head, Inside, Items, Iteration, Mark, Operands, Panel, Side, Slider,
-};
+use fv_parse_grammar::{Commas, Inside, Items, Iteration, Mark, Operands, Panel, Side, Slider};
 
 impl<'a> Reader<'a> {
     /// What stands behind an open bracket. All recursion goes by here.
@@ -161,33 +158,31 @@ impl<'a> Reader<'a> {
         Ok(self.arena.push(TreeNode::Panel(kind, text, tree), start)?)
     }
 
-    /// An operand, by what the first of all its symbols begins, which was passed.
-    #[tactic(auto, unfolding(fv_parse_grammar::specs::Descent::by_head))]
+    /// An operand, by the first of all its symbols, which was passed.
+    #[tactic(auto, unfolding(fv_parse_grammar::specs::Descent::by_first))]
     #[cycle(parser)]
-    fn by_head(&mut self, nesting: usize, head: Head, all: &'a [Symbol]) -> Result<TreeId, Stop>
+    fn by_first(&mut self, nesting: usize, first: Symbol, all: &'a [Symbol]) -> Result<TreeId, Stop>
         requires { length self.old.symbols.rest.now < length all.now }
-        ensures is { Gives self.old self.new result (by_head (within nesting) head all.now self.old.symbols.rest.now) }
+        ensures is { Gives self.old self.new result (by_first (within nesting) first all.now self.old.symbols.rest.now) }
         ensures shorter { OnOk result (length self.new.symbols.rest.now < length all.now) }
     {
         let start = all.len();
-        match head {
-            Head::Integer(n) => Ok(self.arena.push(TreeNode::Number(n), start)?),
-            Head::Name(n) => Ok(self.arena.push(TreeNode::Named(n), start)?),
-            Head::Plus => self.plus(start),
-            Head::Minus => self.minus(start),
-            Head::Wire => Ok(self.arena.push(TreeNode::Wire, start)?),
-            Head::Cut => Ok(self.arena.push(TreeNode::Cut, start)?),
-            Head::Primitive(p) => Ok(self.arena.push(TreeNode::Primitive(p), start)?),
-            Head::Group => self.group(nesting, start),
-            Head::Abstraction => self.abstraction(nesting, start),
-            Head::Case => self.case_of(nesting, start),
-            Head::Waveform => self.waveform(start),
-            Head::Iteration(kind) => self.iteration(nesting, start, kind),
-            Head::Ports(side) => self.ports(nesting, start, side),
-            Head::Switch(kind) => self.switch(start, kind),
-            Head::Slider(kind) => self.slider(nesting, start, kind),
-            Head::Panel(kind) => self.panel(nesting, start, kind),
-            Head::Nothing => {
+        match first {
+            Symbol::Integer(n) => Ok(self.arena.push(TreeNode::Number(n), start)?),
+            Symbol::Name(n) => Ok(self.arena.push(TreeNode::Named(n), start)?),
+            Symbol::Plus => self.plus(start),
+            Symbol::Minus => self.minus(start),
+            Symbol::Primitive(p) => Ok(self.arena.push(TreeNode::Primitive(p), start)?),
+            Symbol::Open => self.group(nesting, start),
+            Symbol::Backslash => self.abstraction(nesting, start),
+            Symbol::Case => self.case_of(nesting, start),
+            Symbol::Waveform => self.waveform(start),
+            Symbol::Iteration(kind) => self.iteration(nesting, start, kind),
+            Symbol::Ports(side) => self.ports(nesting, start, side),
+            Symbol::Switch(kind) => self.switch(start, kind),
+            Symbol::Slider(kind) => self.slider(nesting, start, kind),
+            Symbol::Panel(kind) => self.panel(nesting, start, kind),
+            _ => {
                 self.symbols.rest = all;
                 Err(Stop::Syntax)
             }
@@ -204,7 +199,7 @@ impl<'a> Reader<'a> {
             [] => Err(Stop::Syntax),
             [symbol, after @ ..] => {
                 self.symbols.rest = after;
-                self.by_head(nesting, head(*symbol), all)
+                self.by_first(nesting, *symbol, all)
             }
         }
     }
@@ -274,25 +269,25 @@ impl<'a> Reader<'a> {
         Ok(Some(self.arena.push(TreeNode::Apply(tree, arguments), start)?))
     }
 
-    /// What stands in a pattern, by what the first of all its symbols begins, which was passed.
+    /// What stands in a pattern, by the first of all its symbols, which was passed.
     #[cycle(parser)]
-    fn atom_by_head(
+    fn atom_by_first(
         &mut self,
         nesting: usize,
-        head: Head,
+        first: Symbol,
         all: &'a [Symbol],
     ) -> Result<TreeId, Stop>
         requires { length self.old.symbols.rest.now < length all.now }
-        ensures is { Gives self.old self.new result (atom_by_head (within nesting) head all.now self.old.symbols.rest.now) }
+        ensures is { Gives self.old self.new result (atom_by_first (within nesting) first all.now self.old.symbols.rest.now) }
         ensures shorter { OnOk result (length self.new.symbols.rest.now < length all.now) }
     {
         let start = all.len();
-        match head {
-            Head::Integer(n) => Ok(self.arena.push(TreeNode::Number(n), start)?),
-            Head::Name(n) => Ok(self.arena.push(TreeNode::Named(n), start)?),
-            Head::Plus => self.plus_in_pattern(start),
-            Head::Minus => self.minus_in_pattern(start),
-            Head::Group => self.enclosed(nesting, Inside::Pattern),
+        match first {
+            Symbol::Integer(n) => Ok(self.arena.push(TreeNode::Number(n), start)?),
+            Symbol::Name(n) => Ok(self.arena.push(TreeNode::Named(n), start)?),
+            Symbol::Plus => self.plus_in_pattern(start),
+            Symbol::Minus => self.minus_in_pattern(start),
+            Symbol::Open => self.enclosed(nesting, Inside::Pattern),
             _ => {
                 self.symbols.rest = all;
                 Err(Stop::Syntax)
@@ -314,7 +309,7 @@ impl<'a> Reader<'a> {
             [] => Err(Stop::Syntax),
             [symbol, after @ ..] => {
                 self.symbols.rest = after;
-                self.atom_by_head(nesting, head(*symbol), all)
+                self.atom_by_first(nesting, *symbol, all)
             }
         }
     }

@@ -1,9 +1,9 @@
 // All symbols of a text.
 
 ghost use Rattle.std.specs.Prelude.{◌<◌};
-ghost use Rattle.fv_lex.specs.headline.Cuts.{deepest};
 ghost use Rattle.fv_parse_grammar.specs.Descent.{program};
 ghost use Rattle.fv_parse_tree.specs.Gives.{Reads};
+ghost use Rattle.fv_base.specs.declared.limits.TheConstants.{DEEPEST_NESTING};
 
 use crate::arena::Arena;
 use crate::node::TreeId;
@@ -28,7 +28,7 @@ const MOST_OPEN: usize = DEEPEST_NESTING as usize;
 /// The tree that the symbols spell, where no more brackets than a text may have are open at once: its nodes, and its
 /// outermost list of definitions. A fault has the symbols from the first that does not fit.
 pub fn read<'a>(alloc: Global, symbols: &'a [Symbol]) -> Result<(Arena, TreeId), Fault<'a>>
-    ensures { Reads (λ x. x.0) (λ x. x.1) result (program deepest symbols.now) }
+    ensures { Reads (λ x. x.0) (λ x. x.1) result (program DEEPEST_NESTING symbols.now) }
 {
     let mut reader = Reader {
         arena: Arena::new(alloc),

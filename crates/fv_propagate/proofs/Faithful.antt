@@ -22,8 +22,8 @@ use Rattle.fv_share.proofs.lemmas.Puts.{tables_stand}
 use Rattle.fv_share.proofs.lemmas.Kept.{tables_stay}
 use Rattle.fv_diagram.proofs.lemmas.Counting.{counts_on}
 use Rattle.fv_signal.proofs.lemmas.Values.{values_are_given}
-use Rattle.fv_diagram.specs.declared.node.Primitive.{Primitive as Prim}
-use Rattle.fv_diagram.specs.declared.node.Primitive.TheVariants as prim
+use Rattle.fv_diagram.specs.Primitive.{Primitive as Prim}
+use Rattle.fv_diagram.specs.Primitive.TheVariants as prim
 use Rattle.fv_diagram.specs.headline.Diagram.{Primitive, Table, primitive_inputs, table_inputs, is_table_primitive}
 use Rattle.fv_diagram.specs.Diagram.{AreNumbers}
 use Rattle.fv_diagram.specs.Walked.{primitive, one}

@@ -26,7 +26,7 @@ use Rattle.fv_diagram.proofs.lemmas.Places.{takes_some}
 use Rattle.fv_interval.specs.headline.SpanHooks.{control_span}
 use Rattle.fv_interval.specs.inner.SpanHooks.{Noted, span_hooks}
 use Rattle.fv_interval.specs.headline.Laws.{IsOf}
-use Rattle.fv_interval.specs.headline.Delays.{amount, amounts, delay_limit}
+use Rattle.fv_interval.specs.headline.Delays.{amount, amounts}
 use Rattle.fv_interval.specs.Delays.{AreDelays, IsDelay}
 use Rattle.fv_propagate.specs.declared.progress.Feedback.{Feedback}
 use Rattle.fv_propagate.specs.inner.Progress.{Progress, put, puts, passed, grouped, put_mem, put_prefix, leaf_of, opened_of, shut}
@@ -42,6 +42,7 @@ use Rattle.fv_interval.specs.headline.WireSpans.{table_span}
 use Rattle.fv_interval.specs.Laws.{AreOf}
 use Rattle.fv_interval.proofs.lemmas.Holds.{answers_hold}
 use Rattle.fv_signal.proofs.lemmas.Fits.{full_of}
+use Rattle.fv_base.specs.declared.limits.TheConstants.{DELAY_LIMIT}
 
 -- ---- numbers in spans
 
@@ -103,7 +104,7 @@ of_delay s z d h =
     let e = natural s.hi (omega (arith, ints, d.natural, h.0.ordered)) in
     record { above = omega (arith, ints, d.natural, h.1.above); below = omega (arith, ints, h.1.below, e) }
 
-short_delay : (s : Interval) → IsDelay s → IsSpan s → unsigned_abs s.hi ≤ delay_limit
+short_delay : (s : Interval) → IsDelay s → IsSpan s → unsigned_abs s.hi ≤ DELAY_LIMIT
 short_delay s d h = let e = natural s.hi (omega (arith, ints, d.natural, h.ordered)) in omega (arith, ints, d.short, e)
 
 pub not_clamped : (max : ℕ) (z : ℤ) → IsWithin (upto max) z → clamped max z ≡ z
@@ -118,7 +119,7 @@ module _ (C : ℕ → Type 0) (F : Graph) (ordered : IsOrdered F) (X : List Fram
 
   -- a delay goes back from 0 to its greatest number, which is within the limit
   abbrev pub IsFar : (d max : ℕ) → Type 0
-  IsFar d max = ((t : ℕ) → IsWithin (upto max) (value F d X c t)) × (max ≤ delay_limit)
+  IsFar d max = ((t : ℕ) → IsWithin (upto max) (value F d X c t)) × (max ≤ DELAY_LIMIT)
 
   -- each delay so far does
   abbrev pub AreRanged : Progress → Type 0

@@ -3,8 +3,7 @@ pub mod Propagated
 -- what its public clauses cite of crates below
 pub use Rattle.fv_diagram.specs.headline.Diagram
 pub use Rattle.fv_diagram.specs.Diagram as DiagramBeside
-pub use Rattle.fv_diagram.specs.headline.Arena
-pub use Rattle.fv_diagram.specs.Arena as ArenaBeside
+pub use Rattle.fv_diagram.specs.Arena
 pub use Rattle.fv_interval.specs.headline.Delays
 pub use Rattle.fv_interval.specs.Delays as DelaysBeside
 pub use Rattle.fv_num.specs.headline.Interval

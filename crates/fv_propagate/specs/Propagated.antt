@@ -5,8 +5,8 @@ use Rattle.fv_num.specs.headline.Interval.{Interval, IsWithin}
 use Rattle.fv_signal.specs.declared.signal.Signal.TheVariants.{Const, Delay}
 use Rattle.fv_signal.specs.headline.Value.{Graph, value}
 use Rattle.fv_diagram.specs.headline.Diagram.{Diagram}
-use Rattle.fv_interval.specs.headline.Delays.{delay_limit}
 use Rattle.fv_propagate.specs.headline.Propagated.{AreTaken}
+use Rattle.fv_base.specs.declared.limits.TheConstants.{DELAY_LIMIT}
 
 -- How far each delay goes back is from 0 to its greatest number.
 abbrev pub DelaysStayWithin : Diagram → List Interval → Graph → Type 0
@@ -17,4 +17,4 @@ DelaysStayWithin d spans g =
 
 -- no greatest number of a delay is over the limit
 abbrev pub AreShort : Graph → Type 0
-AreShort g = (s x back max : ℕ) → s < length g.signals → slice_index_or g.signals s (Const (pos 0)) ≡ Delay x back max → max ≤ delay_limit
+AreShort g = (s x back max : ℕ) → s < length g.signals → slice_index_or g.signals s (Const (pos 0)) ≡ Delay x back max → max ≤ DELAY_LIMIT

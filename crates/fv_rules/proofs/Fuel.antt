@@ -7,16 +7,15 @@ use Rattle.fv_parse_grammar.specs.headline.Tree.{Tree, items, start_of}
 use Rattle.fv_parse_grammar.specs.headline.Tree as tree
 use Rattle.fv_parse_grammar.specs.declared.form.Operator.{Operator}
 use Rattle.fv_parse_grammar.specs.declared.form.Operator.TheVariants as operators
-use Rattle.fv_parse_grammar.specs.declared.form.Iteration.{Iteration as Repetition}
-use Rattle.fv_parse_grammar.specs.declared.form.Iteration.TheVariants as repetitions
+use Rattle.fv_parse_grammar.specs.Iteration.{Iteration as Repetition}
+use Rattle.fv_parse_grammar.specs.Iteration.TheVariants as repetitions
 use Rattle.fv_diagram.specs.Op.TheVariants as op
-use Rattle.fv_diagram.specs.declared.node.Primitive.{Primitive as Prim}
-use Rattle.fv_diagram.specs.declared.node.Primitive.TheVariants as prim
+use Rattle.fv_diagram.specs.Primitive.{Primitive as Prim}
+use Rattle.fv_diagram.specs.Primitive.TheVariants as prim
 use Rattle.fv_diagram.specs.headline.Diagram.{Diagram, Primitive, Constant, Table, Bind, Par, Seq, Split, Merge, Rec, size, inputs}
 use Rattle.fv_diagram_head.specs.Numbers.{at_first, number_of}
 use Rattle.fv_diagram.specs.Words.{argument}
 use Rattle.std.proofs.Common.{◌+◌, ◌*◌}
-use Rattle.fv_diagram.specs.headline.Arena.{size_limit}
 use Rattle.fv_diagram.specs.declared.control.ControlInfo.{ControlInfo}
 use Rattle.fv_rules.specs.declared.refusal.EvalRefusal.{EvalRefusal}
 use Rattle.fv_rules.specs.declared.refusal.EvalRefusal.TheVariants.{EvalBudget}
@@ -26,12 +25,13 @@ use Rattle.fv_rules.specs.headline.Values.{Parameters, Cases, Meaning, IsValue, 
 use Rattle.fv_rules.specs.headline.Matching.{Bindings, settled, value_number, bound_in, chosen}
 use Rattle.fv_rules.specs.headline.Steps.{State, Outcome, Eval, after, ◌>>=◌, give, refuse, spent, visit, fresh_slots, misfit, put_after, put_as, put, is_alike}
 use Rattle.fv_diagram_head.specs.headline.Heads.{parts, cut, is_head, table_numbers}
-use Rattle.fv_rules.specs.headline.Steps.{sized, side_by_side, table_size, grow, table_limit, tabled_by}
+use Rattle.fv_rules.specs.headline.Steps.{sized, side_by_side, table_size, grow, tabled_by}
 use Rattle.fv_rules.specs.headline.Steps.{tabled, waved, before_table, labelled, entered, control}
-use Rattle.fv_rules.specs.headline.Rules.{literal_value, primitive_of, switch_kind, slider_kind, Evaluator, flat, on_slots, bind_all, turned}
+use Rattle.fv_rules.specs.headline.Rules.{literal_value, switch_kind, slider_kind, Evaluator, flat, on_slots, bind_all, turned}
 use Rattle.fv_rules.specs.headline.Rules.{operated, joined, from_right, from_left, defined_value, meant, name_value, arguments, all_turned, wires}
 use Rattle.fv_rules.specs.headline.Rules.{all_outputs, takes_the_right, led, fed_by, fed, width, selected, applied, bodies, gathered, counted}
 use Rattle.fv_rules.specs.headline.Rules.{read_number, parameters, slider_info, switch_info, abstraction, rule, visited, descend, within, ev}
+use Rattle.fv_base.specs.declared.limits.TheConstants.{SIZE_LIMIT, TABLE_LIMIT}
 
 -- ---- what does not raise the visits, and what agrees below a number of visits
 abbrev pub AtMost : {A : Type 0} → ℕ → Outcome A → Type 0
@@ -83,7 +83,7 @@ flat_agrees : {n : ℕ} {m m' : Eval Diagram} → Agrees n m m' → Agrees n (fl
 flat_agrees a = bind_agrees a (λ d. give_agrees)
 
 sized_agrees : (n : ℕ) (d : Diagram) → Agrees n (sized d) (sized d)
-sized_agrees n d = choice (nat_le (size d) size_limit) give_agrees refuse_agrees
+sized_agrees n d = choice (nat_le (size d) SIZE_LIMIT) give_agrees refuse_agrees
 
 put_after_agrees : (n : ℕ) (o : Option EvalRefusal) (d : Diagram) → Agrees n (put_after o d) (put_after o d)
 put_after_agrees n (Some r) d = refuse_agrees
@@ -103,7 +103,7 @@ if_at_most n true x y p q = p
 if_at_most n false x y p q = q
 
 grow_agrees : (n k : ℕ) → Agrees n (grow k) (grow k)
-grow_agrees n k = keeps n (grow k) (λ s. if_at_most s.visits (nat_le (s.tables + k) table_limit) _ _ (omega arith) tt)
+grow_agrees n k = keeps n (grow k) (λ s. if_at_most s.visits (nat_le (s.tables + k) TABLE_LIMIT) _ _ (omega arith) tt)
 
 waved_agrees : (n : ℕ) (values : List ℤ) → Agrees n (waved values) (waved values)
 waved_agrees n values = bind_agrees (grow_agrees n (length values)) (λ u. give_agrees)
@@ -135,7 +135,7 @@ operated_agrees : (n : ℕ) (p : Prim) (a b : Diagram) → Agrees n (operated p 
 operated_agrees n p a b = bind_agrees (put_agrees n (Par a b)) (λ ab. put_agrees n (Seq ab (Primitive p)))
 
 joined_agrees : (n : ℕ) (o : Operator) (a b : Diagram) → Agrees n (joined o a b) (joined o a b)
-joined_agrees n (operators.Infix p) a b = operated_agrees n (primitive_of p) a b
+joined_agrees n (operators.Infix p) a b = operated_agrees n p a b
 joined_agrees n operators.Recursion a b = put_agrees n (Rec a b)
 joined_agrees n operators.Parallel a b = put_agrees n (Par a b)
 joined_agrees n operators.Sequence a b = put_agrees n (Seq a b)
@@ -277,8 +277,6 @@ abstraction_agrees n l e e' a (x ∷ xs) b env = give_agrees
 rule_agrees : (n : ℕ) (l : Lexed) (e e' : Evaluator) → Alike n e e' → (x : Tree) (env : Env) → Agrees n (rule l e x env) (rule l e' x env)
 rule_agrees n l e e' a (tree.Number s k) env = give_agrees
 rule_agrees n l e e' a (tree.Negative s k) env = give_agrees
-rule_agrees n l e e' a (tree.Wire s) env = give_agrees
-rule_agrees n l e e' a (tree.Cut s) env = give_agrees
 rule_agrees n l e e' a (tree.Primitive s p) env = give_agrees
 rule_agrees n l e e' a (tree.Named s x) env = meant_agrees n e e' a (text_of l x) (lookup l env (text_of l x))
 rule_agrees n l e e' a (tree.MinusNamed s x) env =

@@ -13,11 +13,11 @@ use Rattle.fv_parse_grammar.specs.headline.Tree.{Tree, items, start_of}
 use Rattle.fv_parse_grammar.specs.headline.Tree as tree
 use Rattle.fv_parse_grammar.specs.declared.form.Operator.{Operator}
 use Rattle.fv_parse_grammar.specs.declared.form.Operator.TheVariants as operators
-use Rattle.fv_parse_grammar.specs.declared.form.Side.{Side}
-use Rattle.fv_parse_grammar.specs.declared.form.Side.TheVariants as sides
+use Rattle.fv_parse_grammar.specs.Side.{Side}
+use Rattle.fv_parse_grammar.specs.Side.TheVariants as sides
 use Rattle.fv_diagram.specs.Op.TheVariants as op
 use Rattle.fv_diagram.proofs.lemmas.Composed.{composed_is_well}
-use Rattle.fv_diagram.specs.declared.node.Primitive.TheVariants as prim
+use Rattle.fv_diagram.specs.Primitive.TheVariants as prim
 use Rattle.fv_diagram.specs.headline.Diagram.{Diagram, Primitive, Constant, Control, Slot, Bind, Par, Seq, Split, Merge, Rec, has_table_primitive}
 use Rattle.fv_diagram.specs.declared.control.ControlInfo.{ControlInfo}
 use Rattle.fv_rules.specs.declared.refusal.EvalRefusal.{EvalRefusal}
@@ -31,7 +31,7 @@ use Rattle.fv_rules.specs.headline.Matching.{Bindings, number_or, settled, and_t
 use Rattle.fv_rules.specs.headline.Matching.{value_parts, value_number, matched, all_matched, bound_in, or_next, chosen}
 use Rattle.fv_rules.specs.headline.Steps.{State, Outcome, Eval, after, ◌>>=◌, no_number, no_rule, no_diagram, spent}
 use Rattle.fv_rules.specs.headline.Steps.{visit, fresh_slots, give, refuse, whole, is_alike, labelled, entered, control}
-use Rattle.fv_rules.specs.headline.Rules.{literal_value, primitive_of, switch_kind, slider_kind, Evaluator, flat, on_slots}
+use Rattle.fv_rules.specs.headline.Rules.{literal_value, switch_kind, slider_kind, Evaluator, flat, on_slots}
 use Rattle.fv_rules.specs.headline.Rules.{bind_all, turned, operated, defined_value, meant, name_value, arguments, all_turned}
 use Rattle.fv_rules.specs.headline.Rules.{width, selected, applied, bodies, counted, ports, read_number, parameters, slider_info}
 use Rattle.fv_rules.specs.headline.Rules.{switch_info, abstraction, rule, descend, within, ev, finished, start, program_value}
@@ -388,9 +388,7 @@ rule_does : (l : Lexed) (e : Evaluator) → Valid e → (S : ℕ → Type 0) (k 
     → Does (ValidValue S) 1 k (rule l e x env)
 rule_does l e a S k (tree.Number s n) env g = give_does (λ m h. constant_valid S m _)
 rule_does l e a S k (tree.Negative s n) env g = give_does (λ m h. constant_valid S m _)
-rule_does l e a S k (tree.Wire s) env g = give_does (λ m h. prim_valid S m prim.Wire)
-rule_does l e a S k (tree.Cut s) env g = give_does (λ m h. prim_valid S m prim.Cut)
-rule_does l e a S k (tree.Primitive s p) env g = give_does (λ m h. prim_valid S m (primitive_of p))
+rule_does l e a S k (tree.Primitive s p) env g = give_does (λ m h. prim_valid S m p)
 rule_does l e a S k (tree.Named s n) env g =
     let x = text_of l n in lend (meant_does e a S k x (lookup l env x) (lookup_valid S k l env x g))
 rule_does l e a S k (tree.MinusNamed s n) env g = lend (minus_does l e a S k n env g)

@@ -6,11 +6,11 @@ use Rattle.std.proofs.lemmas.Bool.{and_parts, leb-true, eqb-true}
 use Rattle.std.proofs.lemmas.Option.{none-some}
 use Rattle.fv_parse_grammar.specs.declared.form.Operator.{Operator}
 use Rattle.fv_parse_grammar.specs.declared.form.Operator.TheVariants as operators
-use Rattle.fv_parse_grammar.specs.declared.form.Iteration.{Iteration as Repetition}
-use Rattle.fv_parse_grammar.specs.declared.form.Iteration.TheVariants as repetitions
+use Rattle.fv_parse_grammar.specs.Iteration.{Iteration as Repetition}
+use Rattle.fv_parse_grammar.specs.Iteration.TheVariants as repetitions
 use Rattle.fv_diagram.specs.Op.TheVariants as op
-use Rattle.fv_diagram.specs.declared.node.Primitive.{Primitive as Prim}
-use Rattle.fv_diagram.specs.declared.node.Primitive.TheVariants as prim
+use Rattle.fv_diagram.specs.Primitive.{Primitive as Prim}
+use Rattle.fv_diagram.specs.Primitive.TheVariants as prim
 use Rattle.fv_diagram.specs.headline.Diagram.{Diagram, Primitive, Constant, Slot, Table, Bind, Par, Seq, Split, Merge, Rec, size, inputs, outputs, table_inputs}
 use Rattle.fv_diagram_head.specs.Numbers.{at_first}
 use Rattle.fv_diagram.specs.Words.{argument}
@@ -18,7 +18,6 @@ use Rattle.std.specs.List.{list_all}
 use Rattle.std.proofs.Common.{◌+◌, ◌*◌, length, ◌∙◌, negsuc}
 use Rattle.fv_diagram.specs.Diagram.{control_bound, IsFree}
 use Rattle.fv_diagram.specs.Composed.{IsComposed}
-use Rattle.fv_diagram.specs.headline.Arena.{size_limit}
 use Rattle.fv_rules.specs.declared.refusal.EvalRefusal.{EvalRefusal}
 use Rattle.fv_rules.specs.declared.refusal.EvalRefusal.TheVariants.{SizeBudget, Arity, IterationCount, TooManyArguments}
 use Rattle.fv_arity.specs.declared.refusal.ArityKind.TheVariants as kind
@@ -26,13 +25,14 @@ use Rattle.fv_rules.specs.headline.Values.{Flat}
 use Rattle.fv_rules.specs.headline.Steps.{State, Outcome, Eval, after, give, refuse, is_multiple, unless, or_else, misfit, sized, put_after, put_as, put}
 use Rattle.fv_diagram_head.specs.headline.Heads.{parts, cut, is_fixed, is_head, table_numbers}
 use Rattle.fv_diagram_head.proofs.lemmas.Outputs.{cut_outputs, parts_outputs}
-use Rattle.fv_rules.specs.headline.Steps.{side_by_side, table_size, grow, table_limit, tabled_by, tabled, waved}
+use Rattle.fv_rules.specs.headline.Steps.{side_by_side, table_size, grow, tabled_by, tabled, waved}
 use Rattle.fv_rules.specs.declared.refusal.EvalRefusal.TheVariants.{TableForm, TableBudget}
 use Rattle.fv_rules.specs.declared.refusal.TableCause.TheVariants as cause
-use Rattle.fv_rules.specs.headline.Rules.{primitive_of, flat, operated, joined, from_right, from_left}
+use Rattle.fv_rules.specs.headline.Rules.{flat, operated, joined, from_right, from_left}
 use Rattle.fv_rules.specs.headline.Rules.{gathered, wires, all_outputs, takes_the_right, led, fed_by, fed}
 use Rattle.fv_rules.proofs.ValidValues.{IsValid, ValidValue, ValidState, keep, AllValid, keep_all, all_append}
 use Rattle.fv_rules.proofs.ValidValues.{IsCause, Stays, Does, bind_does, give_does, refuse_does, choice}
+use Rattle.fv_base.specs.declared.limits.TheConstants.{SIZE_LIMIT, TABLE_LIMIT}
 
 -- ---- putting
 
@@ -67,12 +67,12 @@ bind_free S s t (inl e) n = absurd (n e)
 bind_free S s t (inr i) n = i
 
 -- two valid diagrams side by side are valid, unless they are too large
-both_valid : (S : ℕ → Type 0) (k : ℕ) (a b : Diagram) → IsValid S k a → IsValid S k b → size (Par a b) ≤ size_limit → IsValid S k (Par a b)
+both_valid : (S : ℕ → Type 0) (k : ℕ) (a b : Diagram) → IsValid S k a → IsValid S k b → size (Par a b) ≤ SIZE_LIMIT → IsValid S k (Par a b)
 both_valid S k a b p q h =
     let r = p.reads in let s = q.reads in
     record { composed = (p.composed, q.composed); within = h; free = λ s i. both_free S k a b s p q i; reads = omega arith }
 
-put_valid : (S : ℕ → Type 0) (k : ℕ) (d : Diagram) → HasValidParts S k d → misfit d ≡ None → size d ≤ size_limit → IsValid S k d
+put_valid : (S : ℕ → Type 0) (k : ℕ) (d : Diagram) → HasValidParts S k d → misfit d ≡ None → size d ≤ SIZE_LIMIT → IsValid S k d
 put_valid S k (Bind s a) g e h =
     let r = g.reads in record { composed = g.composed; within = h; free = λ t i. bind_free S s t (g.free t i.0) i.1; reads = omega arith }
 put_valid S k (Par a b) g e h = both_valid S k a b g.0 g.1 h
@@ -120,12 +120,12 @@ misfit_cause (Rec a b) =
 misfit_cause d = tt
 
 put_tried : (S : ℕ → Type 0) (k : ℕ) (d : Diagram) (b : Bool) (r : EvalRefusal) → IsCause r → HasValidParts S k d → misfit d ≡ None
-    → nat_le (size d) size_limit ≡ b → Does (IsValid S) 0 k (if b then give d else refuse r)
-put_tried S k d true r i g e t = give_does (λ n h. keep S k n d h (put_valid S k d g e (leb-true (size d) size_limit t)))
+    → nat_le (size d) SIZE_LIMIT ≡ b → Does (IsValid S) 0 k (if b then give d else refuse r)
+put_tried S k d true r i g e t = give_does (λ n h. keep S k n d h (put_valid S k d g e (leb-true (size d) SIZE_LIMIT t)))
 put_tried S k d false r i g e t = refuse_does r i
 
 sized_does : (S : ℕ → Type 0) (k : ℕ) (d : Diagram) → HasValidParts S k d → misfit d ≡ None → Does (IsValid S) 0 k (sized d)
-sized_does S k d g e = put_tried S k d (nat_le (size d) size_limit) (SizeBudget (size d)) tt g e refl
+sized_does S k d g e = put_tried S k d (nat_le (size d) SIZE_LIMIT) (SizeBudget (size d)) tt g e refl
 
 put_by : (S : ℕ → Type 0) (k : ℕ) (d : Diagram) (o : Option EvalRefusal) → HasValidParts S k d → misfit d ≡ o → Does (IsValid S) 0 k (put_after o d)
 put_by S k d (Some r) g e = refuse_does r (subst MayCause e (misfit_cause d))
@@ -162,10 +162,10 @@ abbrev Gives : (ℕ → Type 0) → ℕ → ℕ → Diagram → Type 0
 Gives S n k d = IsValid S k d × (outputs d ≡ n)
 
 par_does : (S : ℕ → Type 0) (n m k : ℕ) (a b : Diagram) → Gives S n k a → Gives S m k b → Does (Gives S (n + m)) 0 k (sized (Par a b))
-par_does S n m k a b g h = by (nat_le (size (Par a b)) size_limit) refl
+par_does S n m k a b g h = by (nat_le (size (Par a b)) SIZE_LIMIT) refl
   where
-    by : (t : Bool) → nat_le (size (Par a b)) size_limit ≡ t → Does (Gives S (n + m)) 0 k (if t then give (Par a b) else refuse (SizeBudget (size (Par a b))))
-    by true e = give_does (λ j l. (keep S k j (Par a b) l (both_valid S k a b g.0 h.0 (leb-true (size (Par a b)) size_limit e)), omega (arith, g.1, h.1)))
+    by : (t : Bool) → nat_le (size (Par a b)) SIZE_LIMIT ≡ t → Does (Gives S (n + m)) 0 k (if t then give (Par a b) else refuse (SizeBudget (size (Par a b))))
+    by true e = give_does (λ j l. (keep S k j (Par a b) l (both_valid S k a b g.0 h.0 (leb-true (size (Par a b)) SIZE_LIMIT e)), omega (arith, g.1, h.1)))
     by false e = refuse_does (SizeBudget (size (Par a b))) tt
 
 side_does : (S : ℕ → Type 0) (k : ℕ) (d : Diagram) (ds : List Diagram) → IsValid S k d → AllValid S k ds
@@ -188,7 +188,7 @@ grown_stays n s true h = (omega arith, omega arith, h, tt)
 grown_stays n s false h = tt
 
 grow_does : (k n : ℕ) → Does (Any {A = Unit}) 0 k (grow n)
-grow_does k n = record { stays = λ s h b. grown_stays n s (nat_le (s.tables + n) table_limit) b }
+grow_does k n = record { stays = λ s h b. grown_stays n s (nat_le (s.tables + n) TABLE_LIMIT) b }
 
 pub waved_does : (S : ℕ → Type 0) (k : ℕ) (values : List ℤ) → Does (IsValid S) 0 k (waved values)
 waved_does S k values = bind_does (grow_does k (length values)) (λ u n l q. give_does (λ m h.
@@ -196,7 +196,7 @@ waved_does S k values = bind_does (grow_does k (length values)) (λ u n l q. giv
 
 table_does : (S : ℕ → Type 0) (k : ℕ) (T : List ℤ) (writes : Bool) (r : Diagram) → Gives S (table_inputs writes) k r
     → Does (IsValid S) 0 k (sized (Seq r (Table T writes)))
-table_does S k T writes r g = by (nat_le (size (Seq r (Table T writes))) size_limit) refl
+table_does S k T writes r g = by (nat_le (size (Seq r (Table T writes))) SIZE_LIMIT) refl
   where
     d : Diagram
     d = Seq r (Table T writes)
@@ -205,11 +205,11 @@ table_does S k T writes r g = by (nat_le (size (Seq r (Table T writes))) size_li
     free s (inl i) = g.0.free s i
     free s (inr i) = absurd i
 
-    by : (t : Bool) → nat_le (size d) size_limit ≡ t → Does (IsValid S) 0 k (if t then give d else refuse (SizeBudget (size d)))
+    by : (t : Bool) → nat_le (size d) SIZE_LIMIT ≡ t → Does (IsValid S) 0 k (if t then give d else refuse (SizeBudget (size d)))
     by true e = give_does (λ n l. keep S k n d l
         (let q = g.0.reads in record {
           composed = (g.0.composed, tt, g.1);
-          within = leb-true (size d) size_limit e;
+          within = leb-true (size d) SIZE_LIMIT e;
           free = free;
           reads = omega arith;
         }))
@@ -281,7 +281,7 @@ pub operated_does : (S : ℕ → Type 0) (k : ℕ) (p : Prim) (a b : Diagram) �
 operated_does S k p a b g h = bind_does (put_does S k (Par a b) (g, h)) (λ ab n i j. put_does S n (Seq ab (Primitive p)) (j, prim_valid S n p))
 
 pub joined_does : (S : ℕ → Type 0) (k : ℕ) (o : Operator) (a b : Diagram) → IsValid S k a → IsValid S k b → Does (IsValid S) 0 k (joined o a b)
-joined_does S k (operators.Infix p) a b g h = operated_does S k (primitive_of p) a b g h
+joined_does S k (operators.Infix p) a b g h = operated_does S k p a b g h
 joined_does S k operators.Recursion a b g h = put_does S k (Rec a b) (g, h)
 joined_does S k operators.Parallel a b g h = put_does S k (Par a b) (g, h)
 joined_does S k operators.Sequence a b g h = put_does S k (Seq a b) (g, h)

@@ -4,18 +4,18 @@ use Rattle.std.specs.Prelude.{All, if◌then◌else◌}
 use Rattle.fv_diagram.specs.headline.Diagram.{Diagram, size}
 use Rattle.fv_diagram.specs.Diagram.{control_bound, IsFree}
 use Rattle.fv_diagram.specs.Composed.{IsComposed}
-use Rattle.fv_diagram.specs.headline.Arena.{size_limit}
 use Rattle.fv_rules.specs.declared.refusal.EvalRefusal.{EvalRefusal}
 use Rattle.fv_rules.specs.declared.refusal.EvalRefusal.TheVariants.{NoMemory}
 use Rattle.fv_rules.specs.headline.Values.{Value, Flat, Abstraction, Rules, Env, Outermost, Bound, Scope, Taken, Nothing, And}
 use Rattle.fv_rules.specs.headline.Steps.{State, Outcome, Eval, after, ◌>>=◌, give, refuse}
 use Rattle.fv_diagram.specs.Controls.{IsBounded}
+use Rattle.fv_base.specs.declared.limits.TheConstants.{SIZE_LIMIT}
 
 -- ---- diagrams, values, environments and states
 
 pub record IsValid (S : ℕ → Type 0) (k : ℕ) (d : Diagram) : Type 0 where
   pub composed : IsComposed d
-  pub within : size d ≤ size_limit
+  pub within : size d ≤ SIZE_LIMIT
   pub free : (s : ℕ) → IsFree s d → S s
   pub reads : control_bound d ≤ k
 

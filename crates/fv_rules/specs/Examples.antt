@@ -7,12 +7,11 @@ use Rattle.fv_lex.specs.headline.Token.{Token, Lexed}
 use Rattle.fv_diagram.specs.Op.TheVariants as op
 use Rattle.fv_parse_grammar.specs.headline.Tree.{Tree}
 use Rattle.fv_parse_grammar.specs.headline.Tree as tree
-use Rattle.fv_parse_grammar.specs.declared.form.Primitive.TheVariants as operations
 use Rattle.fv_parse_grammar.specs.declared.form.Operator.TheVariants as operators
-use Rattle.fv_parse_grammar.specs.declared.form.Iteration.TheVariants as repetitions
-use Rattle.fv_parse_grammar.specs.declared.form.Side.TheVariants as sides
-use Rattle.fv_parse_grammar.specs.declared.form.Slider.TheVariants as sliders
-use Rattle.fv_diagram.specs.declared.node.Primitive.TheVariants as prim
+use Rattle.fv_parse_grammar.specs.Iteration.TheVariants as repetitions
+use Rattle.fv_parse_grammar.specs.Side.TheVariants as sides
+use Rattle.fv_parse_grammar.specs.Slider.TheVariants as sliders
+use Rattle.fv_diagram.specs.Primitive.TheVariants as prim
 use Rattle.fv_diagram.specs.headline.Diagram.{Diagram, Primitive, Constant, Slot, Bind, Par, Seq}
 use Rattle.fv_rules.specs.declared.refusal.EvalRefusal.TheVariants.{UnknownName, NotANumber, IterationCount, NoRule, NotADiagram, TooManyArguments}
 use Rattle.fv_rules.specs.declared.refusal.EvalRefusal.TheVariants.{EvalBudget, ControlClash, ControlBounds}
@@ -46,13 +45,13 @@ none : number_of (Primitive prim.Wire) ≡ None
 none = refl
 
 -- `-(1)`: the argument is taken on the right
-takes_one : (ev lexed).diagram (tree.Apply 9 (tree.Primitive 9 operations.Subtract) (tree.More (tree.Number 7 1) tree.End)) Outermost (state 9 0)
+takes_one : (ev lexed).diagram (tree.Apply 9 (tree.Primitive 9 (prim.Point op.Sub)) (tree.More (tree.Number 7 1) tree.End)) Outermost (state 9 0)
     ≡ Ok (Seq (Par (Primitive prim.Wire) (Constant (pos 1))) minus, state 6 0)
 unfolding within state lexed int_wrap minus
 takes_one = refl
 
 -- with one visit there is none left for the parts
-too_few : (ev lexed).diagram (tree.Binary 9 operators.Parallel (tree.Wire 9) (tree.Wire 7)) Outermost (state 1 0) ≡ Err EvalBudget
+too_few : (ev lexed).diagram (tree.Binary 9 operators.Parallel (tree.Primitive 9 prim.Wire) (tree.Primitive 7 prim.Wire)) Outermost (state 1 0) ≡ Err EvalBudget
 unfolding within state lexed
 too_few = refl
 
@@ -123,7 +122,8 @@ summed : (ev f_of_one).diagram (tree.Iteration 9 repetitions.Sum 0 (tree.Number 
 unfolding within state f_of_one at sign word int_wrap
 summed = refl
 
-uncounted : (ev f_of_one).diagram (tree.Iteration 9 repetitions.Sum 0 (tree.Wire 7) (tree.Named 5 9)) Outermost (state 9 0) ≡ Err (NotANumber 1 11)
+uncounted : (ev f_of_one).diagram (tree.Iteration 9 repetitions.Sum 0 (tree.Primitive 7 prim.Wire) (tree.Named 5 9)) Outermost (state 9 0)
+    ≡ Err (NotANumber 1 11)
 unfolding within state f_of_one at sign word int_wrap
 uncounted = refl
 
@@ -133,7 +133,7 @@ unfolding within state f_of_one at sign word int_wrap
 below_one = refl
 
 -- `inputs(+)`
-two_inputs : (ev lexed).diagram (tree.Ports 9 sides.Inputs (tree.Primitive 7 operations.Add)) Outermost (state 9 0) ≡ Ok (Constant (pos 2), state 7 0)
+two_inputs : (ev lexed).diagram (tree.Ports 9 sides.Inputs (tree.Primitive 7 (prim.Point op.Add))) Outermost (state 9 0) ≡ Ok (Constant (pos 2), state 7 0)
 unfolding within state lexed
 two_inputs = refl
 

@@ -7,16 +7,15 @@ pub mod Examples
 -- what it hands on of crates below
 pub use Rattle.fv_diagram_head.specs.Numbers
 pub use Rattle.fv_parse.specs.headline.Trees
-pub use Rattle.fv_parse_grammar.specs.declared.form.Iteration
+pub use Rattle.fv_parse_grammar.specs.Iteration
 pub use Rattle.fv_parse_grammar.specs.declared.form.Operator
-pub use Rattle.fv_parse_grammar.specs.declared.form.Side
+pub use Rattle.fv_parse_grammar.specs.Side
 pub use Rattle.fv_parse_grammar.specs.headline.Tree
 pub use Rattle.fv_lex.specs.headline.Token
 pub use Rattle.fv_diagram.specs.declared.control.ControlKind
-pub use Rattle.fv_diagram.specs.declared.node.Primitive
+pub use Rattle.fv_diagram.specs.Primitive
 pub use Rattle.fv_diagram.specs.headline.Diagram
 pub use Rattle.fv_diagram.specs.Op
 pub use Rattle.fv_diagram.specs.Words
 pub use Rattle.fv_arity.specs.Compositions
 pub use Rattle.fv_arity.specs.declared.refusal.ArityKind
-pub use Rattle.fv_diagram.specs.headline.Arena

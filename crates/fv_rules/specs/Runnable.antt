@@ -4,20 +4,20 @@ use Rattle.fv_lex.specs.headline.Token.{Lexed}
 use Rattle.fv_parse_grammar.specs.headline.Tree.{Tree}
 use Rattle.fv_diagram.specs.headline.Diagram.{Diagram, size}
 use Rattle.fv_diagram.specs.Diagram.{control_bound, IsWellFormed, HasNoFreeSlot}
-use Rattle.fv_diagram.specs.headline.Arena.{size_limit}
 use Rattle.fv_diagram.specs.Controls.{IsBounded}
 use Rattle.fv_diagram.specs.declared.control.ControlInfo.{ControlInfo}
 use Rattle.fv_rules.specs.declared.refusal.EvalRefusal.TheVariants.{NoMemory}
-use Rattle.fv_rules.specs.headline.Rules.{program_value, visit_limit}
+use Rattle.fv_rules.specs.headline.Rules.{program_value}
+use Rattle.fv_base.specs.declared.limits.TheConstants.{SIZE_LIMIT, VISIT_LIMIT}
 
 -- A program's diagram and controls: it can run, names only these controls, and they are within their bounds.
 pub record IsRunnable (d : Diagram) (cs : List ControlInfo) : Type 0 where
   pub well : IsWellFormed d
-  pub within : size d ≤ size_limit
+  pub within : size d ≤ SIZE_LIMIT
   pub closed : HasNoFreeSlot d
   pub reads : control_bound d ≤ length cs
   pub bounded : All IsBounded cs
-  pub few : length cs ≤ visit_limit
+  pub few : length cs ≤ VISIT_LIMIT
 
 -- What a program's value is made of can run.
 abbrev pub EvaluatesToRunnables : Type 0

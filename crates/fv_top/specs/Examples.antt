@@ -1,6 +1,6 @@
 -- Small files, which hold by computing.
 use Rattle.std.specs.Prelude.{◌≡◌, refl, false, ℕ, List, [], ◌∷◌, ◌++◌, take, drop, true, Some, None, Ok, Err}
-use Rattle.fv_diagram.specs.declared.node.Primitive.TheVariants.{Wire}
+use Rattle.fv_diagram.specs.Primitive.TheVariants.{Wire}
 use Rattle.fv_diagram.specs.headline.Diagram.{Primitive}
 use Rattle.fv_control.specs.headline.Streams.{control_streams}
 use Rattle.fv_pcm.specs.declared.coding.Coding.TheVariants as coding

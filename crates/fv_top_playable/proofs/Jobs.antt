@@ -18,7 +18,6 @@ use Rattle.fv_join.specs.Jobs.{CanBeJoined, NamesBelow, ReadsWithin}
 use Rattle.fv_join_diagrams.specs.headline.Parts.{Part}
 use Rattle.fv_propagate.proofs.lemmas.Named.{control_below}
 use Rattle.fv_propagate.specs.headline.Propagated.{NamesOf}
-use Rattle.fv_top_rack.specs.Rules.{visit_limit}
 use Rattle.fv_signal.specs.declared.signal.Signal.{Signal}
 use Rattle.fv_signal.specs.declared.signal.Signal.TheVariants.{Input, Const, Control, Point, Delay, Back, Member, Read as ReadTable, Write as WriteTable}
 use Rattle.fv_top_rack.specs.Compiled.{Compiled}
@@ -27,6 +26,7 @@ use Rattle.fv_top_rack.specs.headline.Racks.{part_of}
 use Rattle.fv_top_rack.specs.Reads.{IsRead, programs_in}
 use Rattle.fv_top_rack.specs.declared.programs.Read.{Read}
 use Rattle.fv_top_rack.proofs.lemmas.Sums.{own}
+use Rattle.fv_diagram.specs.Limits.TheConstants.{VISIT_LIMIT}
 
 -- ---- the graph of a program as a job
 
@@ -124,7 +124,7 @@ module _ (rs : List Read) (jobs : List Job) (read : All IsRead rs) (few : length
         let narrow = (able k d l).plays.narrow in let is = (job_at k j d l).inputs_are in omega (arith, narrow, is)) in
         let e = long_is in omega (arith, most, e, few);
     controls =
-        let most = sum_by-le (λ (j : Job). j.controls) visit_limit jobs (λ k j l.
+        let most = sum_by-le (λ (j : Job). j.controls) VISIT_LIMIT jobs (λ k j l.
         let own = get_or rs k d in
         let count = (able k d l).controls in
         let is = (job_at k j d l).controls_are in omega (arith, count, is, length-map (of own).controls span_of)) in

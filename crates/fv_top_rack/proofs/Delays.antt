@@ -8,8 +8,8 @@ use Rattle.std.proofs.lemmas.List.{get_or-append-add, get_or_append_left, length
 use Rattle.fv_base.specs.headline.Lists.{table}
 use Rattle.fv_base.proofs.lemmas.Lists.{length_table}
 use Rattle.fv_interval.specs.Interval.{Interval, full, point, span_at}
-use Rattle.fv_diagram.specs.declared.node.Primitive.{Primitive as Prim}
-use Rattle.fv_diagram.specs.declared.node.Primitive.TheVariants.{Wire, Cut, Mem, Prefix, Delay, Int, Attach, Point, ReadTable, WriteTable}
+use Rattle.fv_diagram.specs.Primitive.{Primitive as Prim}
+use Rattle.fv_diagram.specs.Primitive.TheVariants.{Wire, Cut, Mem, Prefix, Delay, Int, Attach, Point, ReadTable, WriteTable}
 use Rattle.fv_diagram.specs.headline.Diagram.{Diagram, Primitive, Constant, Control, Slot, Wave, Table, Bind, Par, Seq, Split, Merge, Rec, inputs}
 use Rattle.fv_diagram.specs.Diagram.{control_bound}
 use Rattle.fv_diagram.specs.headline.Streams.{dealt}

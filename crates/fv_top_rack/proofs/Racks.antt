@@ -4,7 +4,7 @@ use Rattle.std.specs.Prelude.{IsTrue, Result, nat_le, sum, if◌then◌else◌}
 use Rattle.std.proofs.lemmas.Bool.Decides.{nat_tests}
 use Rattle.fv_diagram.specs.headline.Diagram.{inputs, outputs}
 use Rattle.fv_interval.specs.declared.refusal.DelayRefusal.TheVariants as delay
-use Rattle.fv_interval.specs.headline.Delays.{amounts, delay_budget}
+use Rattle.fv_interval.specs.headline.Delays.{amounts}
 use Rattle.fv_interval.specs.Delays.{AreDelays}
 use Rattle.fv_base.specs.declared.role.Role.TheVariants.{Program}
 use Rattle.fv_base.specs.declared.limits.TheConstants.{MOST_JOBS}
@@ -26,6 +26,7 @@ use Rattle.fv_top_rack.specs.headline.Kinds.{is_of_kind}
 use Rattle.fv_top_rack.specs.Kinds.{IsOfKind}
 use Rattle.fv_top_rack.specs.headline.Racks.{EachIs, RackIs, rack_of}
 use Rattle.fv_top_rack.specs.inner.Layers.{Beside, JobsHave}
+use Rattle.fv_base.specs.declared.limits.TheConstants.{DELAY_BUDGET}
 
 -- what is judged by these channels is judged by the program's
 pub width_is : (p : Compiled) (n m : ℕ) (r : Result Compiled Refusal) → n ≡ inputs p.diagram → m ≡ outputs p.diagram → with_channels n m p ≡ r → narrow p ≡ r
@@ -79,13 +80,13 @@ module _ (file : List ℕ) (texts : List (List ℕ)) (cut : jobs_file file ≡ O
 
     module _ (sum_is : (n : ℕ) × (n ≡ sum (amounts (delays_in rack)))) (good : AreDelays (delays_in rack)) where
       -- all delays are too long
-      pub sum_stops : (e : Refusal) → (e ≡ no.DelayBudget sum_is.0) × (delay_budget < sum_is.0) → IsRefused file e
+      pub sum_stops : (e : Refusal) → (e ≡ no.DelayBudget sum_is.0) × (DELAY_BUDGET < sum_is.0) → IsRefused file e
       sum_stops e h =
           let is = h.0 in
           let refused = delays_stop rack (delay.DelayBudget sum_is.0) e h.0 (good, sum_is.1, h.1) in
           ⊎_elim inl (λ r. inr (of_number e 28 (ap (λ (x : Refusal). (row_of x).number) is) refl, stops e (goes_on rack (Err e) beside r.1))) refused
 
-      module _ (within : sum_is.0 ≤ delay_budget) where
+      module _ (within : sum_is.0 ≤ DELAY_BUDGET) where
         passed : delayed rack (first_bad (delays_in rack)) ≡ Ok rack
         passed =
             let same = sum_is.1 in

@@ -2,7 +2,6 @@
 use Rattle.std.specs.Prelude.{◌≤◌, ◌<◌, List, length, map, All}
 use Rattle.fv_diagram.specs.Arena.{count_of}
 use Rattle.fv_interval.specs.Delays.{AreAccepted}
-use Rattle.fv_rules.specs.headline.Rules.{visit_limit}
 use Rattle.fv_base.specs.declared.limits.TheConstants.{MOST_JOBS}
 use Rattle.fv_top_text.specs.headline.Compiled.{Compiled}
 use Rattle.fv_top_text.specs.Compiled.{compiled_of, CanPlay}
@@ -11,6 +10,7 @@ use Rattle.fv_top_rack.specs.headline.Racks.{rack_of}
 use Rattle.fv_top_rack.specs.declared.programs.Read.{Read}
 use Rattle.fv_top_rack.specs.declared.programs.Programs.{Programs}
 use Rattle.fv_top_rack.specs.declared.programs.Programs.TheVariants.{Alone, Rack}
+use Rattle.fv_base.specs.declared.limits.TheConstants.{VISIT_LIMIT}
 
 -- the programs that were read
 abbrev pub programs_in : List Read → List Compiled
@@ -26,7 +26,7 @@ pub record IsRead (r : Read) : Type 0 where
   pub root : r.program.root < count_of r.program.diagrams
   pub plays : CanPlay (compiled_of r.program)
   pub accepted : AreAccepted (delays_in (compiled_of r.program)) r.delays
-  pub controls : length (compiled_of r.program).controls ≤ visit_limit
+  pub controls : length (compiled_of r.program).controls ≤ VISIT_LIMIT
 
 -- so it is with each, and there are no more than a file may have
 abbrev pub AreRead : Programs → Type 0

@@ -3,7 +3,6 @@
 ghost use Rattle.std.specs.Prelude.{◌≡◌, ◌⊎◌, ◌≤◌, ◌<◌, ℕ, length, map, sum, All, IfOk, IfErr, OnOk, Ok, Err};
 ghost use Rattle.std.specs.List.{sum_by};
 ghost use Rattle.fv_diagram.specs.headline.Diagram.{inputs, outputs};
-ghost use Rattle.fv_interval.specs.headline.Delays.{delay_budget};
 ghost use Rattle.fv_base.specs.declared.limits.TheConstants.{MOST_JOBS};
 ghost use Rattle.fv_top_report.specs.declared.refusal.Refusal.{Refusal as Refusals};
 ghost use Rattle.fv_top_report.specs.declared.refusal.Refusal.TheVariants.{DelayBudget, NoMemory};
@@ -15,6 +14,7 @@ ghost use Rattle.fv_top_rack.specs.headline.Racks.{EachIs, RackIs, rack_of, refu
 ghost use Rattle.fv_top_rack.specs.Kinds.{IsOfKind};
 ghost use Rattle.fv_top_rack.specs.Reads.{IsRead, programs_in};
 ghost use Rattle.fv_top_words.specs.declared.manner.ProgramKind.TheVariants as kinds;
+ghost use Rattle.fv_base.specs.declared.limits.TheConstants.{DELAY_BUDGET};
 
 use crate::programs::Read;
 use fv_base::limits::DELAY_BUDGET;
@@ -91,8 +91,8 @@ fn sum_of_delays(reads: &[Read]) -> u64
 
 // Whether all delays together may have this sum.
 fn check_budget(sum: u64) -> Result<(), Refusal>
-    ensures ok { OnOk result (sum ≤ delay_budget) }
-    ensures err { IfErr result (λ e. (e ≡ DelayBudget sum) × (delay_budget < sum)) }
+    ensures ok { OnOk result (sum ≤ DELAY_BUDGET) }
+    ensures err { IfErr result (λ e. (e ≡ DelayBudget sum) × (DELAY_BUDGET < sum)) }
 {
     if sum > DELAY_BUDGET {
         return Err(Refusal::DelayBudget { sum });

@@ -1,7 +1,7 @@
 -- What calls say beside `headline/Compiled`: what a program is, what the code's programs are, and that they can be played.
 use Rattle.std.specs.Prelude.{◌≤◌, ◌<◌, ◌^◌, All, length}
 use Rattle.fv_base.specs.declared.limits.TheConstants.{MOST_CHANNELS}
-use Rattle.fv_interval.specs.ArenaBeside.{tree_of}
+use Rattle.fv_interval.specs.Arena.{tree_of}
 use Rattle.fv_interval.specs.Diagram.{inputs, outputs}
 use Rattle.fv_interval.specs.DiagramBeside.{control_bound, HasNoFreeSlot, IsWellFormed}
 use Rattle.fv_interval.specs.Controls.{IsBounded}

@@ -2,16 +2,16 @@
 
 ghost use Rattle.std.specs.Prelude.{◌≡◌, ◌⊎◌, ◌≤◌, ◌<◌, length, IfOk, IfErr, OnOk, Ok, Err};
 ghost use Rattle.fv_base.specs.declared.limits.TheConstants.{MOST_CHANNELS};
-ghost use Rattle.fv_interval.specs.ArenaBeside.{count_of, tree_of};
+ghost use Rattle.fv_interval.specs.Arena.{count_of, tree_of};
 ghost use Rattle.fv_interval.specs.Diagram.{inputs, outputs};
 ghost use Rattle.fv_interval.specs.Delays.{AreAccepted};
-ghost use Rattle.fv_eval.specs.Rules.{visit_limit};
 ghost use Rattle.fv_top_report.specs.headline.Lines.{row_of};
 ghost use Rattle.fv_top_report.specs.declared.refusal.Refusal.TheVariants.{NoMemory};
 ghost use Rattle.fv_top_text.specs.headline.Compiled.{Compiled};
 ghost use Rattle.fv_top_text.specs.Compiled.{compiled_of, CanPlay};
 ghost use Rattle.fv_top_text.specs.headline.Program.{narrow, with_channels, delayed, first_bad, delays_in};
 ghost use Rattle.fv_top_text.specs.Program.{IsProgram, IsRefusedText, IsOfText};
+ghost use Rattle.fv_base.specs.declared.limits.TheConstants.{VISIT_LIMIT};
 
 use fv_base::limits::MOST_CHANNELS;
 use fv_eval::{Program, evaluate};
@@ -28,7 +28,7 @@ pub fn read_program(alloc: Global, text: &[u8]) -> Result<(Program, Delays), Ref
     ensures found { IfOk result (λ p. IsProgram text.now (compiled_of p.0)) }
     ensures root { IfOk result (λ p. p.0.root < count_of p.0.diagrams) }
     ensures plays { IfOk result (λ p. CanPlay (compiled_of p.0)) }
-    ensures controls { IfOk result (λ p. length (compiled_of p.0).controls ≤ visit_limit) }
+    ensures controls { IfOk result (λ p. length (compiled_of p.0).controls ≤ VISIT_LIMIT) }
     ensures delays { IfOk result (λ p. AreAccepted (delays_in (compiled_of p.0)) p.1) }
     // Only a text that is no program is refused, and for its cause.
     ensures refused { IfErr result (λ e. (e ≡ NoMemory) ⊎ (IsOfText e × IsRefusedText text.now e)) }

@@ -4,10 +4,11 @@ use Rattle.std.proofs.lemmas.Int.{ints}
 use Rattle.std.proofs.lemmas.List.Elements.{All-nil, All-cons}
 use Rattle.std.proofs.lemmas.List.Sums.{sum_by-cons}
 use Rattle.fv_interval.specs.Interval.{Interval, point}
-use Rattle.fv_interval.specs.headline.Delays.{amounts, delay_limit}
+use Rattle.fv_interval.specs.headline.Delays.{amounts}
 use Rattle.fv_interval.specs.Delays.{IsDelay, AreDelays, AreAccepted}
 use Rattle.fv_interval.specs.headline.WireSpans.{delay_spans}
 use Rattle.fv_top_voices.specs.Voices.{voices_from}
+use Rattle.fv_lex.specs.Limits.TheConstants.{DELAY_LIMIT}
 
 -- the delays of voice i: of its feedback, and of its `@`
 abbrev pub delays_from : ℕ → ℕ → List Interval
@@ -18,7 +19,7 @@ pub delays_are : (i k : ℕ) (c e : ℕ → Interval) (I : List Interval) → de
 delays_are i zero c e I = refl
 delays_are i (suc k) c e I = ap (λ ss. point (pos 1) ∷ point (pos (i * 37 + 1)) ∷ ss) (delays_are (suc i) k c e (drop 1 I))
 
-is_delay : (n : ℕ) → n ≤ delay_limit → IsDelay (point (pos n))
+is_delay : (n : ℕ) → n ≤ DELAY_LIMIT → IsDelay (point (pos n))
 is_delay n h = record { natural = omega (arith, ints); short = omega (arith, ints) }
 
 two_more : (i : ℕ) (ss : List Interval) → i ≤ 63 → AreDelays ss → AreDelays (point (pos 1) ∷ point (pos (i * 37 + 1)) ∷ ss)

@@ -7,12 +7,13 @@ use Rattle.fv_lex.specs.declared.token.Kind.{Kind}
 use Rattle.fv_lex.specs.declared.token.Kind.TheVariants.{Name, Integer, Text, Sign}
 use Rattle.fv_lex.specs.headline.Bytes.{is_blank, is_letter, is_digit, is_underscore, is_name_byte, is_quote, begins, dot, underscore}
 use Rattle.fv_lex.specs.headline.Symbols.{at_byte, singles, double, value}
-use Rattle.fv_lex.specs.headline.Pieces.{is_name, is_integer, is_token, is_real_tail, begins_comment, greatest_literal, IsLongest, IsPiece}
+use Rattle.fv_lex.specs.headline.Pieces.{is_name, is_integer, is_token, is_real_tail, begins_comment, IsLongest, IsPiece}
 use Rattle.fv_lex.specs.headline.Pieces.{blank_byte, longest_token}
-use Rattle.fv_lex.specs.headline.Cuts.{deepest, depth_after, Cut, Cuts, piece_first}
+use Rattle.fv_lex.specs.headline.Cuts.{depth_after, Cut, Cuts, piece_first}
 use Rattle.fv_lex.proofs.lemmas.Runs.{Stops}
 use Rattle.fv_lex.proofs.lemmas.Classes.{digit_range, no_digit, no_name, no_integer, no_text}
 use Rattle.fv_lex.proofs.lemmas.Sound.{digits_longest, name_longest, no_comment, no_dot, no_real, no_real_digits, tail_behind, wire_longest}
+use Rattle.fv_lex.specs.Limits.TheConstants.{DEEPEST_NESTING, GREATEST_LITERAL}
 
 -- ---- tests
 
@@ -44,7 +45,7 @@ is_piece None (b ∷ []) rest = is_blank b
 is_piece (Some Name) (b ∷ bs) rest = nat_le 65 b && (is_name (b ∷ bs) && not (begins is_name_byte rest))
 is_piece (Some Integer) (b ∷ bs) rest =
     is_digit b && (list_all is_digit bs
-    && (not (begins is_digit rest) && (not (is_real_tail rest) && nat_le (value (b ∷ bs)) greatest_literal)))
+    && (not (begins is_digit rest) && (not (is_real_tail rest) && nat_le (value (b ∷ bs)) GREATEST_LITERAL)))
 is_piece (Some Sign) bytes rest = is_wire bytes rest || is_sign bytes rest
 is_piece kind bytes rest = false
 
@@ -59,7 +60,7 @@ stops p [] e = tt
 stops p (b ∷ bs) e = e
 
 pub number_piece : (d : ℕ) (ds rest : List ℕ) → is_digit d ≡ true → list_all is_digit ds ≡ true → begins is_digit rest ≡ false
-    → is_real_tail rest ≡ false → value (d ∷ ds) ≤ greatest_literal → IsPiece (d ∷ ds) rest (Some Integer)
+    → is_real_tail rest ≡ false → value (d ∷ ds) ≤ GREATEST_LITERAL → IsPiece (d ∷ ds) rest (Some Integer)
 number_piece d ds rest first others ends unreal small =
     let all : is_integer (d ∷ ds) ≡ true = rw (first, others) refl in
     let r = digit_range d first in
@@ -153,7 +154,7 @@ piece (Some Integer) (b ∷ bs) rest e =
     let second = and_parts (list_all is_digit bs) _ first.1 in
     let third = and_parts (not (begins is_digit rest)) _ second.1 in
     let fourth = and_parts (not (is_real_tail rest)) _ third.1 in
-    number_piece b bs rest first.0 second.0 (is_not _ third.0) (is_not _ fourth.0) (leb-true (value (b ∷ bs)) greatest_literal fourth.1)
+    number_piece b bs rest first.0 second.0 (is_not _ third.0) (is_not _ fourth.0) (leb-true (value (b ∷ bs)) GREATEST_LITERAL fourth.1)
 piece (Some Sign) bytes rest e =
     ⊎_elim (wire_piece bytes rest) (sign_piece bytes rest) (or_cases (is_wire bytes rest) (is_sign bytes rest) e)
 piece (Some Text) bytes rest e = absurd cc
@@ -183,13 +184,13 @@ depth_behind depth (t ∷ ts) = depth_behind (depth_after depth t) ts
 abbrev pub are_pieces : ℕ → List (List ℕ) → List ℕ → Bool
 are_pieces depth [] rest = true
 are_pieces depth (t ∷ ts) rest =
-    is_piece (kind_of t) t (bytes_of ts rest) && (nat_le (depth_after depth t) deepest && are_pieces (depth_after depth t) ts rest)
+    is_piece (kind_of t) t (bytes_of ts rest) && (nat_le (depth_after depth t) DEEPEST_NESTING && are_pieces (depth_after depth t) ts rest)
 
 pub cuts : (depth : ℕ) (ts : List (List ℕ)) (rest end : List ℕ) (others : List Cut) (deep : ℕ) → are_pieces depth ts rest ≡ true
     → Cuts rest (depth_behind depth ts) others end deep → Cuts (bytes_of ts rest) depth (cuts_of ts others) end deep
 cuts depth [] rest end others deep e h = h
 cuts depth (t ∷ ts) rest end others deep e h =
     let first = and_parts (is_piece (kind_of t) t (bytes_of ts rest)) _ e in
-    let second = and_parts (nat_le (depth_after depth t) deepest) _ first.1 in
-    piece_first (piece (kind_of t) t (bytes_of ts rest) first.0) (leb-true (depth_after depth t) deepest second.0)
+    let second = and_parts (nat_le (depth_after depth t) DEEPEST_NESTING) _ first.1 in
+    piece_first (piece (kind_of t) t (bytes_of ts rest) first.0) (leb-true (depth_after depth t) DEEPEST_NESTING second.0)
     (cuts (depth_after depth t) ts rest end others deep second.1 h)

@@ -6,11 +6,11 @@ use Rattle.fv_lex.specs.declared.token.Kind.TheVariants.{Integer}
 use Rattle.fv_lex.specs.headline.Token.{Lexed}
 use Rattle.fv_lex.specs.headline.Bytes.{is_digit}
 use Rattle.fv_lex.specs.headline.Symbols.{value}
-use Rattle.fv_lex.specs.headline.Pieces.{greatest_literal}
-use Rattle.fv_lex.specs.headline.Cuts.{deepest, depth_after, Cut, Cuts, nothing_more, piece_first, whole, first_place, tokens_of, end_of, longest_text, cut}
+use Rattle.fv_lex.specs.headline.Cuts.{depth_after, Cut, Cuts, nothing_more, piece_first, whole, first_place, tokens_of, end_of, cut}
 use Rattle.fv_lex.specs.Cuts.{HasTokens}
 use Rattle.fv_lex.proofs.lemmas.Classes.{digit_range}
 use Rattle.fv_top_voices.proofs.Pieces.{number_piece, cuts_of, cuts}
+use Rattle.fv_lex.specs.Limits.TheConstants.{DEEPEST_NESTING, GREATEST_LITERAL, LONGEST_TEXT}
 
 -- the pieces of the text before the number of voices
 abbrev pub before : List (List ℕ)
@@ -64,7 +64,7 @@ depth_stays depth d (c ∷ ds) is = refl
 pub record AreDigits (d : ℕ) (ds : List ℕ) : Type 0 where
   pub first : is_digit d ≡ true
   pub others : list_all is_digit ds ≡ true
-  pub small : value (d ∷ ds) ≤ greatest_literal
+  pub small : value (d ∷ ds) ≤ GREATEST_LITERAL
   pub short : length ds ≤ 64
 
 module _ (d : ℕ) (ds : List ℕ) (h : AreDigits d ds) where
@@ -75,11 +75,11 @@ module _ (d : ℕ) (ds : List ℕ) (h : AreDigits d ds) where
   cut_number =
       let stays = depth_stays 1 d ds h.first in
       let small = h.small in
-      piece_first (number_piece d ds text_behind h.first h.others refl refl small) (subst (λ n. n ≤ deepest) (sym stays) (omega arith))
+      piece_first (number_piece d ds text_behind h.first h.others refl refl small) (subst (λ n. n ≤ DEEPEST_NESTING) (sym stays) (omega arith))
       (subst (λ n. Cuts text_behind n (cuts_of behind []) [] 0) (sym stays) cut_behind)
 
   pub has_tokens : HasTokens (text (d ∷ ds)) (lexed (d ∷ ds))
   has_tokens =
       let short = h.short in
-      let fits : length (text (d ∷ ds)) ≤ longest_text = omega (arith, length-append ds text_behind) in
+      let fits : length (text (d ∷ ds)) ≤ LONGEST_TEXT = omega (arith, length-append ds text_behind) in
       cut fits (cuts 0 before (d ∷ (ds ++ text_behind)) [] (pieces_from (d ∷ ds)) 0 refl cut_number) whole

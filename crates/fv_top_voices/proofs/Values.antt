@@ -3,17 +3,15 @@ use Rattle.std.proofs.Common.{◌≡◌, ℕ, zero, suc, ◌+◌, ◌-◌, ◌*�
 use Rattle.std.proofs.Common.{pos, ◌+ℤ◌, ◌*ℤ◌, Some, None, Ok, refl, ap, ap₂, ◌∙◌, sym, arith, le-leb, append_assoc, append-nil}
 use Rattle.std.proofs.Math.Nat.{mod-one}
 use Rattle.fv_lex.specs.headline.Token.{Lexed}
-use Rattle.fv_lex.specs.headline.Pieces.{greatest_literal}
 use Rattle.fv_rules.specs.Words.{wrap}
 use Rattle.fv_interval.specs.Op.TheVariants as op
-use Rattle.fv_parse_grammar.specs.headline.Tree.{Tree, Number, Wire as WireTree, Binary}
+use Rattle.fv_parse_grammar.specs.headline.Tree.{Tree, Number, Primitive as Spelled, Binary}
 use Rattle.fv_parse_grammar.specs.declared.form.Operator.{Operator}
 use Rattle.fv_parse_grammar.specs.declared.form.Operator.TheVariants as operators
-use Rattle.fv_parse_grammar.specs.declared.form.Iteration.TheVariants as repetitions
+use Rattle.fv_parse_grammar.specs.Iteration.TheVariants as repetitions
 use Rattle.fv_interval.specs.Primitive.{Primitive as Prim}
 use Rattle.fv_interval.specs.Primitive.TheVariants.{Wire, Delay, Point}
 use Rattle.fv_interval.specs.Diagram.{Diagram, Primitive, Constant, Par, Seq, Split, Merge, Rec, size, inputs, outputs, has_table_primitive}
-use Rattle.fv_rules.specs.Arena.{size_limit}
 use Rattle.fv_rules.specs.ArityKind.TheVariants as kind
 use Rattle.fv_rules.specs.declared.refusal.EvalRefusal.TheVariants.{Arity, TableForm}
 use Rattle.fv_rules.specs.declared.refusal.TableCause.TheVariants as cause
@@ -26,6 +24,7 @@ use Rattle.fv_rules.specs.headline.Rules.{Evaluator, within, ev, flat, turned, r
 use Rattle.fv_top_voices.specs.Voices.{voice, voices_from}
 use Rattle.fv_top_voices.proofs.Tokens.{lexed}
 use Rattle.fv_top_voices.proofs.Trees.{tree, process, all_voices, one_voice}
+use Rattle.fv_lex.specs.Limits.TheConstants.{GREATEST_LITERAL, SIZE_LIMIT}
 
 -- with so many visits left, no controls, no slots and no tables
 abbrev pub state : ℕ → State
@@ -42,8 +41,8 @@ outermost n = Scope (tree n) Outermost
 
 -- ---- what is put
 
-put_gives : (d : Diagram) (s : State) → before_table d ≡ None → misfit d ≡ None → size d ≤ size_limit → put d s ≡ Ok (d, s)
-put_gives d s plain fits small = ap₂ (λ o m. put_as o m d s) plain fits ∙ (rw (le-leb (size d) size_limit small) refl)
+put_gives : (d : Diagram) (s : State) → before_table d ≡ None → misfit d ≡ None → size d ≤ SIZE_LIMIT → put d s ≡ Ok (d, s)
+put_gives d s plain fits small = ap₂ (λ o m. put_as o m d s) plain fits ∙ (rw (le-leb (size d) SIZE_LIMIT small) refl)
 
 multiple_of_one : (n : ℕ) → 1 ≤ n → is_multiple n 1 ≡ true
 multiple_of_one n h = rw (le-leb 1 n h, mod-one n) refl
@@ -117,7 +116,7 @@ unfolding within
 given_voice digits depth left i n = refl
 
 -- a number that a text may have does not wrap
-stays : LiteralsStay → (n : ℕ) → n ≤ greatest_literal → wrap (pos n) ≡ pos n
+stays : LiteralsStay → (n : ℕ) → n ≤ GREATEST_LITERAL → wrap (pos n) ≡ pos n
 stays literals n h = (literals n h).0
 
 -- ---- evaluation, in so many visits
@@ -128,7 +127,7 @@ unfolding within
 number_gives l depth n left env = refl
 
 wire_gives : (l : Lexed) (depth j left : ℕ) (env : Env)
-    → (within (suc depth) l).diagram (WireTree j) env (state (suc left)) ≡ Ok (Primitive Wire, state left)
+    → (within (suc depth) l).diagram (Spelled j Wire) env (state (suc left)) ≡ Ok (Primitive Wire, state left)
 unfolding within
 wire_gives l depth j left env = refl
 
@@ -210,12 +209,12 @@ module _ (literals : LiteralsStay) where
     processed depth left =
         let env = outermost (suc k) in
         let m = spent (suc k) (suc left) in
-        let merged = Binary 14 operators.Merge (all_voices (suc k)) (WireTree 2) in
-        binary_gives l (within (more 14 depth) l) 16 operators.Split (WireTree 16) merged env
+        let merged = Binary 14 operators.Merge (all_voices (suc k)) (Spelled 2 Wire) in
+        binary_gives l (within (more 14 depth) l) 16 operators.Split (Spelled 16 Wire) merged env
         (state (more 4 m)) (state (more 3 m)) (state left) (state left) (Primitive Wire) (added k) (whole k)
         (wire_gives l (more 13 depth) 16 (more 3 m) env)
         (diagram_by l (more 13 depth) merged env (more 2 m) (added k) (state left)
-        (binary_gives l (within (more 13 depth) l) 14 operators.Merge (all_voices (suc k)) (WireTree 2) env
+        (binary_gives l (within (more 13 depth) l) 14 operators.Merge (all_voices (suc k)) (Spelled 2 Wire) env
         (state (more 2 m)) (state (suc left)) (state left) (state left) (voices_from 0 k) (Primitive Wire) (added k)
         (diagram_by l (more 12 depth) (all_voices (suc k)) env (suc m) (voices_from 0 k) (state (suc left)) (iterated depth (suc left)))
         (wire_gives l (more 12 depth) 2 left env) (added_put k (state left) few)))

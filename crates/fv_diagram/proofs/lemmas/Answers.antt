@@ -3,8 +3,8 @@ use Rattle.std.proofs.Common.{◌≡◌, ℕ, Bool, true, false, ℤ, suc, ◌+�
 use Rattle.std.proofs.Common.{map, reverse, take, drop, refl, sym, ap, ap₂, ◌∙◌, subst, arith, All, pos}
 use Rattle.std.proofs.lemmas.List.{get_or_append_left, length-append, length-take-le, length-drop, length-replicate, length-reverse}
 use Rattle.fv_base.proofs.lemmas.Lists.{length_table}
-use Rattle.fv_diagram.specs.declared.node.Primitive.{Primitive as Prim}
-use Rattle.fv_diagram.specs.declared.node.Primitive.TheVariants as prim
+use Rattle.fv_num.specs.declared.primitive.Primitive.{Primitive as Prim}
+use Rattle.fv_num.specs.declared.primitive.Primitive.TheVariants as prim
 use Rattle.fv_diagram.specs.headline.Diagram.{Diagram, Primitive, Constant, Control, Slot, Wave, Table, Bind}
 use Rattle.fv_diagram.specs.headline.Diagram.{Par, Seq, Split, Merge, Rec, primitive_outputs, inputs, outputs}
 use Rattle.fv_diagram.specs.headline.Streams.{Frame, column, primitive_at, wave_at, table_at, dealt, merged, bound, last, run}

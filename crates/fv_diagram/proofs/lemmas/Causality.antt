@@ -5,8 +5,8 @@ use Rattle.std.proofs.lemmas.List.{reverse-append, reverse-reverse, get_or_appen
 use Rattle.std.proofs.lemmas.List.{length-reverse, take-append-le, take_all, take_at, nil_from_length, length-take-le}
 use Rattle.std.proofs.lemmas.Bool.{eqb-false}
 use Rattle.fv_num.specs.headline.Words.{apply_of}
-use Rattle.fv_diagram.specs.declared.node.Primitive.{Primitive as Prim}
-use Rattle.fv_diagram.specs.declared.node.Primitive.TheVariants.{Wire, Cut, Mem, Prefix, Delay, Int, Attach, Point, ReadTable, WriteTable}
+use Rattle.fv_num.specs.declared.primitive.Primitive.{Primitive as Prim}
+use Rattle.fv_num.specs.declared.primitive.Primitive.TheVariants.{Wire, Cut, Mem, Prefix, Delay, Int, Attach, Point, ReadTable, WriteTable}
 use Rattle.fv_diagram.specs.headline.Diagram.{Diagram, Primitive, Constant, Control, Slot, Wave, Table, Bind, Par, Seq, Split, Merge, Rec, inputs}
 use Rattle.fv_diagram.specs.Diagram.{control_bound, IsFree, HasNoFreeSlot}
 use Rattle.fv_diagram.specs.headline.Streams.{Frame, Stream, frame_at, column, table, delayed, prefixed, back, primitive_at}

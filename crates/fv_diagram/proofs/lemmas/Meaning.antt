@@ -11,8 +11,8 @@ use Rattle.fv_num.specs.declared.op.Op.TheVariants.{Add}
 use Rattle.fv_num.specs.headline.Words.{apply_of, argument}
 use Rattle.fv_num.specs.headline.Tables.{read_at}
 use Rattle.fv_num.specs.headline.Frames.{table}
-use Rattle.fv_diagram.specs.declared.node.Primitive.{Primitive as Prim}
-use Rattle.fv_diagram.specs.declared.node.Primitive.TheVariants as prim
+use Rattle.fv_num.specs.declared.primitive.Primitive.{Primitive as Prim}
+use Rattle.fv_num.specs.declared.primitive.Primitive.TheVariants as prim
 use Rattle.fv_diagram.specs.declared.signals.Leaf.{Leaf}
 use Rattle.fv_diagram.specs.declared.signals.Leaf.TheVariants as leaf
 use Rattle.fv_diagram.specs.headline.Diagram.{Diagram, Primitive, Constant, Control, Slot, Wave, Table, Bind, Par, Seq, Split, Merge, Rec, inputs, outputs}

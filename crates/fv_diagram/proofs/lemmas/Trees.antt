@@ -13,8 +13,8 @@ use Rattle.fv_diagram.specs.declared.arena.Entry.{Entry}
 use Rattle.fv_num.specs.declared.op.Op.{Op}
 use Rattle.fv_num.specs.declared.op.Op.TheVariants as op
 use Rattle.fv_num.specs.headline.Words.{inputs_of}
-use Rattle.fv_diagram.specs.declared.node.Primitive.{Primitive as Prim}
-use Rattle.fv_diagram.specs.declared.node.Primitive.TheVariants as prim
+use Rattle.fv_num.specs.declared.primitive.Primitive.{Primitive as Prim}
+use Rattle.fv_num.specs.declared.primitive.Primitive.TheVariants as prim
 use Rattle.fv_diagram.specs.headline.Diagram.{Diagram, Primitive, Constant, Control, Slot, Wave, Table, Bind, Par, Seq, Split, Merge}
 use Rattle.fv_diagram.specs.headline.Diagram.{Rec, primitive_inputs, primitive_outputs, table_inputs, inputs, outputs, size}
 use Rattle.fv_diagram.specs.Diagram.{HasNumbers, AreNumbers}

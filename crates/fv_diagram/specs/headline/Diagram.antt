@@ -1,9 +1,8 @@
 -- A block diagram as a tree, its arity, its size, and when it is well formed. The compositions and their conditions are
 -- those of Orlarey, Fober, Letz (2004); slots, binds and controls are this project's profile.
 use Rattle.std.specs.Prelude.{ℕ, suc, ◌+◌, ◌-◌, ℤ, Bool, true, false, ◌||◌, List}
-use Rattle.fv_num.specs.headline.Words.{inputs_of}
-use Rattle.fv_diagram.specs.declared.node.Primitive.{Primitive as Prim}
-use Rattle.fv_diagram.specs.declared.node.Primitive.TheVariants.{Wire, Cut, Mem, Prefix, Delay, Int, Attach, Point, ReadTable, WriteTable}
+pub use Rattle.fv_num.specs.headline.Primitives.{primitive_inputs, primitive_outputs, is_table_primitive}
+use Rattle.fv_num.specs.declared.primitive.Primitive.{Primitive as Prim}
 
 -- a leaf (primitive, number, control, slot, waveform or table, these two with their numbers), a body in which a slot is bound,
 -- or one of the five compositions
@@ -21,24 +20,6 @@ pub data Diagram : Type 0 where
   Merge : (a b : Diagram) → Diagram
   Rec : (a b : Diagram) → Diagram
 
--- how many streams a primitive takes (Faust manual)
-abbrev pub primitive_inputs : Prim → ℕ
-primitive_inputs Prefix = 2
-primitive_inputs Delay = 2
-primitive_inputs Attach = 2
-primitive_inputs ReadTable = 3
-primitive_inputs WriteTable = 5
-primitive_inputs (Point op) = inputs_of op
-primitive_inputs Wire = 1
-primitive_inputs Cut = 1
-primitive_inputs Mem = 1
-primitive_inputs Int = 1
-
--- how many streams a primitive gives (Faust manual)
-abbrev pub primitive_outputs : Prim → ℕ
-primitive_outputs Cut = 0
-primitive_outputs _ = 1
-
 -- how many streams a table takes: where to write, what to write and where to read, or where to read alone (Faust manual)
 abbrev pub table_inputs : Bool → ℕ
 table_inputs true = 3
@@ -47,25 +28,18 @@ table_inputs false = 1
 -- how many streams a diagram gives
 abbrev pub outputs : Diagram → ℕ
 outputs (Primitive p) = primitive_outputs p
-outputs (Constant n) = 1
-outputs (Control k) = 1
-outputs (Slot s) = 1
 outputs (Wave w) = 2
-outputs (Table T writes) = 1
 outputs (Bind s a) = outputs a
 outputs (Par a b) = outputs a + outputs b
 outputs (Seq a b) = outputs b
 outputs (Split a b) = outputs b
 outputs (Merge a b) = outputs b
 outputs (Rec a b) = outputs a
+outputs _ = 1
 
 -- how many it takes
 abbrev pub inputs : Diagram → ℕ
 inputs (Primitive p) = primitive_inputs p
-inputs (Constant n) = 0
-inputs (Control k) = 0
-inputs (Slot s) = 0
-inputs (Wave w) = 0
 inputs (Table T writes) = table_inputs writes
 inputs (Bind s a) = suc (inputs a)
 inputs (Par a b) = inputs a + inputs b
@@ -73,6 +47,7 @@ inputs (Seq a b) = inputs a
 inputs (Split a b) = inputs a
 inputs (Merge a b) = inputs a
 inputs (Rec a b) = inputs a - outputs b
+inputs _ = 0
 
 -- the number of its nodes, as a tree
 abbrev pub size : Diagram → ℕ
@@ -84,13 +59,7 @@ size (Merge a b) = 1 + size a + size b
 size (Rec a b) = 1 + size a + size b
 size _ = 1
 
--- it is `rdtable` or `rwtable`, which become tables where they are put behind the numbers of one
-abbrev pub is_table_primitive : Prim → Bool
-is_table_primitive ReadTable = true
-is_table_primitive WriteTable = true
-is_table_primitive p = false
-
--- one of the two occurs
+-- `rdtable` or `rwtable` occurs, which becomes a table where it is put behind the numbers of one
 abbrev pub has_table_primitive : Diagram → Bool
 has_table_primitive (Primitive p) = is_table_primitive p
 has_table_primitive (Bind s a) = has_table_primitive a

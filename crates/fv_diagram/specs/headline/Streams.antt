@@ -6,8 +6,8 @@ use Rattle.fv_num.specs.declared.op.Op.TheVariants.{Add}
 use Rattle.fv_num.specs.headline.Words.{apply_of, argument}
 use Rattle.fv_num.specs.headline.Tables.{read_at, written_at}
 pub use Rattle.fv_num.specs.headline.Frames.{Frame, Stream, frame_at, column, table, delayed, prefixed, back}
-use Rattle.fv_diagram.specs.declared.node.Primitive.{Primitive as Prim}
-use Rattle.fv_diagram.specs.declared.node.Primitive.TheVariants.{Wire, Cut, Mem, Prefix, Delay, Int, Attach, Point, ReadTable, WriteTable}
+use Rattle.fv_num.specs.declared.primitive.Primitive.{Primitive as Prim}
+use Rattle.fv_num.specs.declared.primitive.Primitive.TheVariants.{Wire, Cut, Mem, Prefix, Delay, Int, Attach, Point}
 use Rattle.fv_diagram.specs.headline.Diagram.{Diagram, Primitive, Constant, Control, Slot, Wave, Table, Bind, Par, Seq, Split, Merge, Rec, inputs}
 
 -- what a primitive gives at time t
@@ -20,9 +20,8 @@ primitive_at Mem X t = delayed (column X 0) t ∷ []
 primitive_at Prefix X t = prefixed (column X 0) (column X 1) t ∷ []
 primitive_at Delay X t = back (column X 0) t (column X 1 t) ∷ []
 primitive_at (Point op) X t = apply_of op (frame_at X t) ∷ []
--- no well-formed diagram has one of these two
-primitive_at ReadTable X t = pos 0 ∷ []
-primitive_at WriteTable X t = pos 0 ∷ []
+-- no well-formed diagram has one of the two that are left
+primitive_at _ X t = pos 0 ∷ []
 
 -- what a waveform gives at time t: how many numbers it has, and the next of them, over and over
 abbrev pub wave_at : List ℤ → ℕ → Frame

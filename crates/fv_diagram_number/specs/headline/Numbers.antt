@@ -1,8 +1,8 @@
 -- The number of a diagram: its value at time 0 (this project's profile).
 use Rattle.std.specs.Prelude.{ℕ, Bool, true, false, ◌&&◌, nat_eq, List, [], ◌∷◌, ℤ, pos, Option, Some, None, if◌then◌else◌}
 use Rattle.fv_num.specs.headline.Words.{argument}
-use Rattle.fv_diagram.specs.declared.node.Primitive.{Primitive as Prim}
-use Rattle.fv_diagram.specs.declared.node.Primitive.TheVariants.{Mem, Prefix, Delay, ReadTable, WriteTable}
+use Rattle.fv_diagram.specs.Primitive.{Primitive as Prim}
+use Rattle.fv_diagram.specs.Primitive.TheVariants.{Mem, Prefix, Delay, ReadTable, WriteTable}
 use Rattle.fv_diagram.specs.headline.Diagram.{Diagram, Primitive, Constant, Par, Seq, Split, Merge, inputs, outputs}
 use Rattle.fv_diagram.specs.headline.Streams.{Stream, run, last}
 

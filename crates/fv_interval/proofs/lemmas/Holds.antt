@@ -14,8 +14,8 @@ use Rattle.fv_num.specs.headline.Interval.{Interval, IsWithin, IsSpan, full, poi
 use Rattle.fv_num.specs.headline.Spans.{span_of}
 use Rattle.fv_base.proofs.lemmas.Lists.{length_table, table_items}
 use Rattle.fv_num.proofs.lemmas.Closed.{holds, closed}
-use Rattle.fv_diagram.specs.declared.node.Primitive.{Primitive as Prim}
-use Rattle.fv_diagram.specs.declared.node.Primitive.TheVariants as prim
+use Rattle.fv_diagram.specs.Primitive.{Primitive as Prim}
+use Rattle.fv_diagram.specs.Primitive.TheVariants as prim
 use Rattle.fv_diagram.specs.headline.Diagram.{Diagram, Primitive, Constant, Control, Slot, Wave, Table, Bind, Par, Seq, Split, Merge, Rec, inputs, outputs}
 use Rattle.fv_diagram.specs.headline.Diagram.{primitive_inputs, table_inputs, is_table_primitive}
 use Rattle.fv_diagram.specs.Diagram.{IsWellFormed, AreNumbers}

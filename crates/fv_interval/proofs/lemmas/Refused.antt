@@ -6,7 +6,7 @@ use Rattle.std.proofs.lemmas.List.Sums.{sum_by-append}
 use Rattle.fv_base.proofs.lemmas.Lists.{drop_step, length_table}
 use Rattle.fv_num.specs.headline.Frames.{table}
 use Rattle.fv_num.specs.headline.Interval.{Interval, full, point, span_at}
-use Rattle.fv_diagram.specs.declared.node.Primitive.TheVariants as prim
+use Rattle.fv_diagram.specs.Primitive.TheVariants as prim
 use Rattle.fv_diagram.specs.headline.Diagram.{Diagram, Primitive, Constant, Control, Slot, Wave, Table, Bind, Par, Seq, Split, Merge, Rec, inputs, size}
 use Rattle.fv_diagram.specs.Diagram.{IsWellFormed}
 use Rattle.fv_diagram.specs.Walked.{walked}
@@ -17,10 +17,11 @@ use Rattle.fv_interval.specs.declared.refusal.DelayRefusal.TheVariants as refusa
 use Rattle.fv_interval.specs.headline.SpanHooks.{control_span}
 use Rattle.fv_interval.specs.inner.SpanHooks.{Noted, span_hooks}
 use Rattle.fv_interval.specs.headline.WireSpans.{bound_span, merged_spans, spans, delay_spans}
-use Rattle.fv_interval.specs.headline.Delays.{delays_of, delay_limit, amount, amounts}
+use Rattle.fv_interval.specs.headline.Delays.{delays_of, amount, amounts}
 use Rattle.fv_interval.specs.Delays.{AreDelays, IsDelay, IsSpanRefused, IsFirstRefused}
 use Rattle.fv_interval.specs.inner.Delays.{IsRefused}
 use Rattle.fv_interval.proofs.SpansWalked.{spans_walked}
+use Rattle.fv_base.specs.declared.limits.TheConstants.{DELAY_LIMIT}
 
 -- ---- how many there are
 
@@ -72,7 +73,7 @@ delays_few (Rec a b) c e I l =
 -- ---- their list
 
 pub listed_more : (ss : List Interval) (i : ℕ) (s : Interval) (delay more total : ℕ) (ds es : List ℕ) → i < length ss → s ≡ get_or ss i s →
-    IsDelay s × (delay ≡ amount s) × (delay ≤ delay_limit) →
+    IsDelay s × (delay ≡ amount s) × (delay ≤ DELAY_LIMIT) →
     AreDelays (take i ss) × (ds ≡ amounts (take i ss)) × (total ≡ sum ds) × (total ≤ 1048575 * i) → es ≡ ds ++ delay ∷ [] → more ≡ delay →
     AreDelays (take (i + 1) ss) × (es ≡ amounts (take (i + 1) ss)) × (total + more ≡ sum es) × (total + more ≤ 1048575 * (i + 1))
 listed_more ss i s delay more total ds es l at d h e m =

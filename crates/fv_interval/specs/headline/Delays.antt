@@ -11,14 +11,6 @@ use Rattle.fv_interval.specs.headline.WireSpans.{delay_spans}
 abbrev pub delays_of : Diagram → List Interval → List Interval
 delays_of d controls = delay_spans d (control_span controls) (λ s. full) (table (inputs d) (λ i. full))
 
--- no delay is greater
-abbrev pub delay_limit : ℕ
-delay_limit = DELAY_LIMIT
-
--- no sum of delays is greater
-abbrev pub delay_budget : ℕ
-delay_budget = DELAY_BUDGET
-
 -- the greatest delay of a span
 abbrev pub amount : Interval → ℕ
 amount s = unsigned_abs s.hi

@@ -1,7 +1,7 @@
 -- Diagrams side by side, each with controls of its own (this project's profile).
 use Rattle.std.specs.Prelude.{ℕ, ◌+◌, List, [], ◌∷◌, length, pos}
 use Rattle.fv_propagate.specs.Interval.{Interval}
-use Rattle.fv_diagram.specs.declared.node.Primitive.TheVariants.{Cut}
+use Rattle.fv_diagram.specs.Primitive.TheVariants.{Cut}
 use Rattle.fv_diagram.specs.headline.Diagram.{Diagram, Primitive, Constant, Control, Slot, Wave, Table, Bind, Par, Seq, Split, Merge, Rec}
 
 -- the diagram with n controls before its own

@@ -14,12 +14,13 @@ use Rattle.fv_lex.specs.declared.next.Next.TheVariants.{End, Found, Refused}
 use Rattle.fv_lex.specs.headline.Bytes.{is_blank, is_letter, is_digit, is_underscore, is_name_byte, is_quote, is_in_line, begins}
 use Rattle.fv_lex.specs.headline.Symbols.{at_byte, singles, double, value}
 use Rattle.fv_lex.specs.headline.Pieces.{is_name, is_integer, closes, is_token, IsLongest, BeginsNoToken, is_real_tail, BeginsReal, fraction, real}
-use Rattle.fv_lex.specs.headline.Pieces.{begins_comment, ends_line, has_close, greatest_literal, IsPiece, blank_byte, line_comment, block_comment}
+use Rattle.fv_lex.specs.headline.Pieces.{begins_comment, ends_line, has_close, IsPiece, blank_byte, line_comment, block_comment}
 use Rattle.fv_lex.specs.headline.Pieces.{longest_token, IsFault, unclosed_text, unclosed_comment, real_literal, large_literal, bad_byte}
 use Rattle.fv_lex.specs.inner.Steps.{to_quote, to_close, bare_underscores, found_or, number_next, slash_next, sign_next, first_next, next_piece}
 use Rattle.fv_lex.proofs.lemmas.Runs.{Stops, prefix_len-cons, prefix_len-passes, list_all-prefix_len, run_stops, run_is, run_short, list_all_stops}
 use Rattle.fv_lex.proofs.lemmas.Classes.{digit_range, letter_range, no_letter, no_digit, no_double}
 use Rattle.fv_lex.proofs.lemmas.Classes.{no_double_high, no_name, no_integer, no_text, no_sign, name_stops}
+use Rattle.fv_base.specs.declared.limits.TheConstants.{GREATEST_LITERAL}
 
 -- so many bytes at the front of a text are a piece
 pub record At (text : List ℕ) (n : ℕ) (kind : Option Kind) : Type 0 where
@@ -219,14 +220,14 @@ number_told b bs d =
     (λ yes. real_literal (subst (λ t. BeginsReal t) whole (real (take n text) (drop n text) all yes)))
     (λ no.
     let unreal : BeginsReal (take n text ++ drop n text) → ⊥ = λ h. no_real_digits b bs d no (subst (λ t. BeginsReal t) whole h) in
-    cond_both (nat_lt greatest_literal (value (take n text))) _ _ (Told text)
+    cond_both (nat_lt GREATEST_LITERAL (value (take n text))) _ _ (Told text)
     (λ large. subst (λ t. IsFault t LiteralTooLarge) whole
-    (large_literal (take n text) (drop n text) all longest unreal (ltb-true greatest_literal (value (take n text)) large)))
+    (large_literal (take n text) (drop n text) all longest unreal (ltb-true GREATEST_LITERAL (value (take n text)) large)))
     (λ small.
     let r = digit_range b d in
     record {
       piece = longest_token all longest (subst (λ t. begins_comment t ≡ false) (sym whole) (no_comment b bs (ne_eqb b 47 (λ q. omega arith)))) unreal
-          (λ _. ltb-false greatest_literal (value (take n text)) small);
+          (λ _. ltb-false GREATEST_LITERAL (value (take n text)) small);
       some = omega arith;
       fits = short;
     }))

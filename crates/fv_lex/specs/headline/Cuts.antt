@@ -15,10 +15,6 @@ use Rattle.fv_lex.specs.headline.Bytes.{line_feed, open_bracket, close_bracket, 
 
 -- ---- brackets
 
--- how many brackets may be open at once
-abbrev pub deepest : ℕ
-deepest = DEEPEST_NESTING
-
 -- How many brackets are open behind a piece: one more behind `(` or `{`, one less, but not below 0, behind `)` or `}`.
 abbrev pub depth_after : ℕ → List ℕ → ℕ
 depth_after depth [] = depth
@@ -40,7 +36,7 @@ pub record Cut : Type 0 where
 pub data Cuts : List ℕ → ℕ → List Cut → List ℕ → ℕ → Type 0 where
   nothing_more : {rest : List ℕ} {depth : ℕ} → Cuts rest depth [] rest depth
   piece_first : {bytes rest end : List ℕ} {kind : Option Kind} {cuts : List Cut} {depth deep : ℕ}
-      → IsPiece bytes rest kind → depth_after depth bytes ≤ deepest → Cuts rest (depth_after depth bytes) cuts end deep
+      → IsPiece bytes rest kind → depth_after depth bytes ≤ DEEPEST_NESTING → Cuts rest (depth_after depth bytes) cuts end deep
       → Cuts (bytes ++ rest) depth (record { bytes = bytes; kind = kind } ∷ cuts) end deep
 
 -- Why a cut ends there: the text ends, or no piece begins, or a bracket too many does.
@@ -48,7 +44,7 @@ pub data Ends : List ℕ → ℕ → Option Fault → Type 0 where
   whole : {depth : ℕ} → Ends [] depth None
   faulty : {rest : List ℕ} {depth : ℕ} {fault : Fault} → IsFault rest fault → Ends rest depth (Some fault)
   too_deep : {bytes rest : List ℕ} {depth : ℕ} {kind : Option Kind}
-      → IsPiece bytes rest kind → deepest < depth_after depth bytes → Ends (bytes ++ rest) depth (Some faults.Nesting)
+      → IsPiece bytes rest kind → DEEPEST_NESTING < depth_after depth bytes → Ends (bytes ++ rest) depth (Some faults.Nesting)
 
 -- ---- places and tokens
 
@@ -95,12 +91,8 @@ abbrev pub answer_of : List Cut → Option Fault → Result Lexed LexRefusal
 answer_of cuts None = Ok (record { tokens = tokens_of 0 first_place cuts; end = end_of first_place cuts })
 answer_of cuts (Some fault) = Err (refusal_at (end_of first_place cuts) fault)
 
--- how long a text may be
-abbrev pub longest_text : ℕ
-longest_text = LONGEST_TEXT
-
 -- What a text has: its tokens, or the first refusal.
 pub data Has : List ℕ → Result Lexed LexRefusal → Type 0 where
-  too_long : {text : List ℕ} → longest_text < length text → Has text (Err (refusals.TextTooLong Program))
+  too_long : {text : List ℕ} → LONGEST_TEXT < length text → Has text (Err (refusals.TextTooLong Program))
   cut : {text rest : List ℕ} {cuts : List Cut} {depth : ℕ} {fault : Option Fault}
-      → length text ≤ longest_text → Cuts text 0 cuts rest depth → Ends rest depth fault → Has text (answer_of cuts fault)
+      → length text ≤ LONGEST_TEXT → Cuts text 0 cuts rest depth → Ends rest depth fault → Has text (answer_of cuts fault)

@@ -92,10 +92,6 @@ has_close (b ∷ bs) = (nat_eq b star && begins (λ c. nat_eq c slash) bs) || ha
 
 -- ---- pieces
 
--- the greatest integer literal
-abbrev pub greatest_literal : ℕ
-greatest_literal = GREATEST_LITERAL
-
 -- These bytes are a piece of a text, before that rest: a token of a kind, or a blank byte or a comment, of no kind.
 pub data IsPiece : List ℕ → List ℕ → Option Kind → Type 0 where
   blank_byte : {b : ℕ} {rest : List ℕ} → is_blank b ≡ true → IsPiece (b ∷ []) rest None
@@ -103,7 +99,7 @@ pub data IsPiece : List ℕ → List ℕ → Option Kind → Type 0 where
   block_comment : (body : List ℕ) {rest : List ℕ} → has_close body ≡ false → IsPiece (slash ∷ star ∷ (body ++ star ∷ slash ∷ [])) rest None
   longest_token : {bytes rest : List ℕ} {kind : Kind}
       → is_token kind bytes ≡ true → IsLongest bytes rest → begins_comment (bytes ++ rest) ≡ false → (BeginsReal (bytes ++ rest) → ⊥)
-      → (kind ≡ Integer → value bytes ≤ greatest_literal) → IsPiece bytes rest (Some kind)
+      → (kind ≡ Integer → value bytes ≤ GREATEST_LITERAL) → IsPiece bytes rest (Some kind)
 
 -- Why no piece begins a text.
 pub data IsFault : List ℕ → Fault → Type 0 where
@@ -111,5 +107,5 @@ pub data IsFault : List ℕ → Fault → Type 0 where
   unclosed_comment : {body : List ℕ} → has_close body ≡ false → IsFault (slash ∷ star ∷ body) Unclosed
   real_literal : {text : List ℕ} → BeginsReal text → IsFault text RealLiteral
   large_literal : (bytes rest : List ℕ) → is_integer bytes ≡ true
-      → IsLongest bytes rest → (BeginsReal (bytes ++ rest) → ⊥) → greatest_literal < value bytes → IsFault (bytes ++ rest) LiteralTooLarge
+      → IsLongest bytes rest → (BeginsReal (bytes ++ rest) → ⊥) → GREATEST_LITERAL < value bytes → IsFault (bytes ++ rest) LiteralTooLarge
   bad_byte : {b : ℕ} {bs : List ℕ} → is_blank b ≡ false → is_quote b ≡ false → BeginsNoToken (b ∷ bs) → IsFault (b ∷ bs) BadByte

@@ -7,6 +7,15 @@ use Rattle.fv_lex.specs.declared.token.Kind.{Kind}
 use Rattle.fv_lex.specs.declared.token.Kind.TheVariants as kinds
 use Rattle.fv_lex.specs.declared.token.Symbol.{Symbol}
 use Rattle.fv_lex.specs.declared.token.Symbol.TheVariants as symbols
+use Rattle.fv_lex.specs.declared.token.Symbol.TheVariants.{Primitive, Iteration, Ports, Switch, Slider, Panel}
+use Rattle.fv_lex.specs.declared.form.Iteration.TheVariants as iterations
+use Rattle.fv_lex.specs.declared.form.Side.TheVariants as sides
+use Rattle.fv_lex.specs.declared.form.Switch.TheVariants as switches
+use Rattle.fv_lex.specs.declared.form.Slider.TheVariants as sliders
+use Rattle.fv_lex.specs.declared.form.Panel.TheVariants as panels
+use Rattle.fv_num.specs.declared.op.Op.{Op}
+use Rattle.fv_num.specs.declared.op.Op.TheVariants as ops
+use Rattle.fv_num.specs.declared.primitive.Primitive.TheVariants as primitives
 use Rattle.fv_lex.specs.headline.Bytes.{open_bracket, close_bracket, star, plus, minus, dot, slash, less, equals, greater, underscore, open_brace, close_brace}
 
 -- what stands beside a byte in a table
@@ -19,26 +28,31 @@ abbrev pub at_word : {A : Type 0} → List (List ℕ × A) → List ℕ → Opti
 at_word [] word = None
 at_word (e ∷ es) word = if bytes_eq word e.0 then Some e.1 else at_word es word
 
+-- the symbol of an operation
+abbrev pub operation : Op → Symbol
+operation o = Primitive (primitives.Point o)
+
 -- the signs of one byte: _ ! , : ~ + - * / % & | < > @ ' ( ) { } = ; . \ ^
 abbrev pub singles : List (ℕ × Symbol)
 singles =
-    (underscore, symbols.Underscore) ∷ (33, symbols.Exclamation) ∷ (44, symbols.Comma) ∷ (58, symbols.Colon) ∷ (126, symbols.Tilde) ∷
-    (plus, symbols.Plus) ∷ (minus, symbols.Minus) ∷ (star, symbols.Times) ∷ (slash, symbols.Divide) ∷ (37, symbols.Percent) ∷
-    (38, symbols.Ampersand) ∷ (124, symbols.Bar) ∷ (less, symbols.Less) ∷ (greater, symbols.Greater) ∷ (64, symbols.At) ∷
+    (underscore, Primitive primitives.Wire) ∷ (33, Primitive primitives.Cut) ∷ (44, symbols.Comma) ∷ (58, symbols.Colon) ∷
+    (126, symbols.Tilde) ∷
+    (plus, symbols.Plus) ∷ (minus, symbols.Minus) ∷ (star, operation ops.Mul) ∷ (slash, operation ops.Div) ∷ (37, operation ops.Rem) ∷
+    (38, operation ops.And) ∷ (124, operation ops.Or) ∷ (less, operation ops.Lt) ∷ (greater, operation ops.Gt) ∷ (64, Primitive primitives.Delay) ∷
     (39, symbols.Tick) ∷ (open_bracket, symbols.Open) ∷ (close_bracket, symbols.Close) ∷ (open_brace, symbols.OpenBrace) ∷ (close_brace, symbols.CloseBrace) ∷
     (equals, symbols.Equals) ∷ (59, symbols.Semicolon) ∷ (dot, symbols.Dot) ∷ (92, symbols.Backslash) ∷ (94, symbols.Caret) ∷ []
 
 -- the second bytes of signs, by the first: <: << <=
 abbrev pub after_less : List (ℕ × Symbol)
-after_less = (58, symbols.Split) ∷ (less, symbols.ShiftLeft) ∷ (equals, symbols.LessEqual) ∷ []
+after_less = (58, symbols.Split) ∷ (less, operation ops.Shl) ∷ (equals, operation ops.Le) ∷ []
 
 -- >> >=
 abbrev pub after_greater : List (ℕ × Symbol)
-after_greater = (greater, symbols.ShiftRight) ∷ (equals, symbols.GreaterEqual) ∷ []
+after_greater = (greater, operation ops.Shr) ∷ (equals, operation ops.Ge) ∷ []
 
 -- == =>
 abbrev pub after_equals : List (ℕ × Symbol)
-after_equals = (equals, symbols.EqualEqual) ∷ (greater, symbols.Arrow) ∷ []
+after_equals = (equals, operation ops.Eq) ∷ (greater, symbols.Arrow) ∷ []
 
 -- :> and !=
 abbrev pub double : ℕ → ℕ → Option Symbol
@@ -47,7 +61,7 @@ double b c =
     else (if nat_eq b greater then at_byte after_greater c
     else (if nat_eq b equals then at_byte after_equals c
     else (if nat_eq b 58 then at_byte ((greater, symbols.Merge) ∷ []) c
-    else (if nat_eq b 33 then at_byte ((equals, symbols.NotEqual) ∷ []) c
+    else (if nat_eq b 33 then at_byte ((equals, operation ops.Ne) ∷ []) c
     else None))))
 
 -- the sign that these bytes are
@@ -60,24 +74,26 @@ sign (b ∷ c ∷ d ∷ bs) = None
 -- words that stand for primitives
 abbrev pub primitive_words : List (List ℕ × Symbol)
 primitive_words =
-    (codes "xor", symbols.Xor) ∷ (codes "mem", symbols.Mem) ∷ (codes "prefix", symbols.Prefix) ∷ (codes "int", symbols.Int) ∷
-    (codes "attach", symbols.Attach) ∷ (codes "select2", symbols.Select2) ∷ (codes "select3", symbols.Select3) ∷
-    (codes "min", symbols.Min) ∷ (codes "max", symbols.Max) ∷ (codes "abs", symbols.Abs) ∷
-    (codes "rdtable", symbols.Rdtable) ∷ (codes "rwtable", symbols.Rwtable) ∷ []
+    (codes "xor", operation ops.Xor) ∷ (codes "mem", Primitive primitives.Mem) ∷ (codes "prefix", Primitive primitives.Prefix) ∷
+    (codes "int", Primitive primitives.Int) ∷ (codes "attach", Primitive primitives.Attach) ∷ (codes "select2", operation ops.Select2) ∷
+    (codes "select3", operation ops.Select3) ∷ (codes "min", operation ops.Min) ∷ (codes "max", operation ops.Max) ∷ (codes "abs", operation ops.Abs) ∷
+    (codes "rdtable", Primitive primitives.ReadTable) ∷ (codes "rwtable", Primitive primitives.WriteTable) ∷ []
 
 -- words that begin a form of the grammar
 abbrev pub form_words : List (List ℕ × Symbol)
 form_words =
-    (codes "par", symbols.Par) ∷ (codes "seq", symbols.Seq) ∷ (codes "sum", symbols.Sum) ∷ (codes "prod", symbols.Prod) ∷
-    (codes "inputs", symbols.Inputs) ∷ (codes "outputs", symbols.Outputs) ∷ (codes "case", symbols.Case) ∷
+    (codes "par", Iteration iterations.Parallel) ∷ (codes "seq", Iteration iterations.Sequence) ∷
+    (codes "sum", Iteration iterations.Sum) ∷ (codes "prod", Iteration iterations.Product) ∷
+    (codes "inputs", Ports sides.Inputs) ∷ (codes "outputs", Ports sides.Outputs) ∷ (codes "case", symbols.Case) ∷
     (codes "with", symbols.With) ∷ (codes "declare", symbols.Declare) ∷ (codes "waveform", symbols.Waveform) ∷ []
 
 -- words of controls and groups
 abbrev pub control_words : List (List ℕ × Symbol)
 control_words =
-    (codes "button", symbols.Button) ∷ (codes "checkbox", symbols.Checkbox) ∷ (codes "hslider", symbols.Hslider) ∷
-    (codes "vslider", symbols.Vslider) ∷ (codes "nentry", symbols.Nentry) ∷ (codes "hgroup", symbols.Hgroup) ∷
-    (codes "vgroup", symbols.Vgroup) ∷ (codes "tgroup", symbols.Tgroup) ∷ []
+    (codes "button", Switch switches.Button) ∷ (codes "checkbox", Switch switches.Checkbox) ∷
+    (codes "hslider", Slider sliders.Horizontal) ∷ (codes "vslider", Slider sliders.Vertical) ∷ (codes "nentry", Slider sliders.Number) ∷
+    (codes "hgroup", Panel panels.Horizontal) ∷
+    (codes "vgroup", Panel panels.Vertical) ∷ (codes "tgroup", Panel panels.Tabs) ∷ []
 
 -- words of Faust's programs that are not supported
 abbrev pub unsupported_forms : List (List ℕ)

@@ -11,7 +11,8 @@ use Rattle.fv_lex.specs.declared.next.Next.TheVariants.{End, Found, Refused}
 use Rattle.fv_lex.specs.headline.Bytes.{is_blank, is_letter, is_digit, is_underscore, is_name_byte, is_quote, is_in_line, begins, star, dot, slash}
 use Rattle.fv_base.specs.headline.Digits.{decimal_after}
 use Rattle.fv_lex.specs.headline.Symbols.{singles, at_byte, double}
-use Rattle.fv_lex.specs.headline.Pieces.{is_real_tail, greatest_literal}
+use Rattle.fv_lex.specs.headline.Pieces.{is_real_tail}
+use Rattle.fv_base.specs.declared.limits.TheConstants.{GREATEST_LITERAL}
 
 -- the byte is of the class (this project's profile)
 abbrev pub is_in : Class → ℕ → Bool
@@ -51,7 +52,7 @@ found_or f (Some n) = f n
 abbrev pub number_next : List ℕ → Next
 number_next text =
     if is_real_tail (drop (prefix_len is_digit text) text) then Refused RealLiteral
-    else (if nat_lt greatest_literal (decimal_after 0 (take (prefix_len is_digit text) text)) then Refused LiteralTooLarge
+    else (if nat_lt GREATEST_LITERAL (decimal_after 0 (take (prefix_len is_digit text) text)) then Refused LiteralTooLarge
     else Found (prefix_len is_digit text) (Some Integer))
 
 -- what begins with `/`, by what is behind that

@@ -9,11 +9,8 @@ use Rattle.fv_parse.specs.declared.unsupported.TheConstants.{PERCENT}
 
 -- the words behind which a label stands (Faust manual)
 abbrev pub is_control : Symbol → Bool
-is_control symbols.Button = true
-is_control symbols.Checkbox = true
-is_control symbols.Hslider = true
-is_control symbols.Vslider = true
-is_control symbols.Nentry = true
+is_control (symbols.Switch kind) = true
+is_control (symbols.Slider kind) = true
 is_control t = false
 
 -- an open bracket

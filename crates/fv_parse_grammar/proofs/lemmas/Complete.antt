@@ -7,34 +7,34 @@ use Rattle.fv_lex.specs.declared.token.Symbol.{Symbol}
 use Rattle.fv_lex.specs.declared.token.Symbol.TheVariants.{Name, Text, Integer, Comma, Open, Close, OpenBrace, CloseBrace}
 use Rattle.fv_lex.specs.declared.token.Symbol.TheVariants.{Equals, Arrow, Semicolon, Dot, Declare, With, Tick}
 use Rattle.fv_lex.specs.declared.token.Symbol.TheVariants as symbols
-use Rattle.fv_parse_grammar.specs.declared.form.Primitive.{Primitive as Operation}
-use Rattle.fv_parse_grammar.specs.declared.form.Primitive.TheVariants as primitives
+use Rattle.fv_num.specs.declared.primitive.Primitive.{Primitive as Operation}
+use Rattle.fv_num.specs.declared.primitive.Primitive.TheVariants as primitives
+use Rattle.fv_num.specs.declared.op.Op.TheVariants.{Add, Sub}
 use Rattle.fv_parse_grammar.specs.declared.form.Literal.{Literal}
 use Rattle.fv_parse_grammar.specs.headline.Grammar.{SpellsNumber, unsigned, with_plus, with_minus, SpellsNumbers, one_number, more_numbers, waved}
 use Rattle.fv_parse_grammar.specs.Descent.{a_literal, literal_list, waveform}
-use Rattle.fv_parse_grammar.specs.declared.form.Iteration.{Iteration as Repetition}
-use Rattle.fv_parse_grammar.specs.declared.form.Side.{Side}
-use Rattle.fv_parse_grammar.specs.declared.form.Switch.{Switch as SwitchKind}
-use Rattle.fv_parse_grammar.specs.declared.form.Slider.{Slider as SliderKind}
-use Rattle.fv_parse_grammar.specs.declared.form.Panel.{Panel as PanelKind}
-use Rattle.fv_parse_grammar.specs.declared.symbol.Head.TheVariants as heads
+use Rattle.fv_lex.specs.declared.form.Iteration.{Iteration as Repetition}
+use Rattle.fv_lex.specs.declared.form.Side.{Side}
+use Rattle.fv_lex.specs.declared.form.Switch.{Switch as SwitchKind}
+use Rattle.fv_lex.specs.declared.form.Slider.{Slider as SliderKind}
+use Rattle.fv_lex.specs.declared.form.Panel.{Panel as PanelKind}
 use Rattle.fv_parse_grammar.specs.declared.symbol.Inside.{Inside}
 use Rattle.fv_parse_grammar.specs.declared.symbol.Inside.TheVariants as insides
 use Rattle.fv_parse_grammar.specs.declared.symbol.Items.{Items}
 use Rattle.fv_parse_grammar.specs.declared.symbol.Items.TheVariants.{Statements, Definitions, Rules, Parts}
-use Rattle.fv_parse_grammar.specs.headline.Symbols.{head, power, operator, is_left}
-use Rattle.fv_parse_grammar.specs.headline.Tree.{Tree, Number, Negative, Named, MinusNamed, Wire, Cut, Primitive}
+use Rattle.fv_parse_grammar.specs.headline.Symbols.{power, operator, is_left}
+use Rattle.fv_parse_grammar.specs.headline.Tree.{Tree, Number, Negative, Named, MinusNamed, Primitive}
 use Rattle.fv_parse_grammar.specs.headline.Tree.{Group, Abstraction, Case, Iteration, Ports, Switch, Slider}
 use Rattle.fv_parse_grammar.specs.headline.Grammar.{Level, Further, Definition, Expression, Listed, OneRule, Phrase, Postfix, Primary, Atom, SpellsNames}
 use Rattle.fv_parse_grammar.specs.headline.Grammar.{one_name, more_names, Spells, SpellsProgram, no_more, stated, declared, declared_for, defined, ruled}
 use Rattle.fv_parse_grammar.specs.headline.Grammar.{parted, first_rule, first_part, constant, function, rule, plain, qualified, tighter, leftward}
 use Rattle.fv_parse_grammar.specs.headline.Grammar.{rightward, operand, pattern_operand, bare, delayed, applied, number, plus_number, minus_number}
-use Rattle.fv_parse_grammar.specs.headline.Grammar.{minus_name, named, wire, cut, plus, minus, primitive, grouped, abstracted, cased, iterated, ported}
+use Rattle.fv_parse_grammar.specs.headline.Grammar.{minus_name, named, plus, minus, primitive, grouped, abstracted, cased, iterated, ported}
 use Rattle.fv_parse_grammar.specs.headline.Grammar.{switched, slid, paneled, atom_number, atom_plus_number, atom_minus_number, atom_name, atom_grouped}
 use Rattle.fv_parse_grammar.specs.Nesting.{Nests}
 use Rattle.fv_parse_grammar.specs.Descent.{Done, Next, One, Skip, run, chain, Reader, power_at, primary, postfix, postfix_turn, phrase, left_turn}
 use Rattle.fv_parse_grammar.specs.Descent.{expression, with_turn, at_comma, a_name, name_list, definition, one_rule, further, listed, item, atom}
-use Rattle.fv_parse_grammar.specs.Descent.{enclosed, argument, within, program, after_plus, after_minus, by_head, abstraction, case_of, iteration}
+use Rattle.fv_parse_grammar.specs.Descent.{enclosed, argument, within, program, after_plus, after_minus, by_first, abstraction, case_of, iteration}
 use Rattle.fv_parse_grammar.specs.Descent.{ports, switch, slider, panel, label, ended, function_after, constant_after, descend}
 use Rattle.fv_parse_grammar.specs.Descent as descent
 use Rattle.fv_parse_grammar.proofs.lemmas.Loops.{run_next, run_done, chain_next, chain_done, many_one, many_skip, many_done, separated_step, separated_end}
@@ -88,13 +88,13 @@ apart commas.Separate (Comma ∷ ts) h = omega arith
 apart commas.Separate (t ∷ ts) h = h
 
 at_plus : (start : ℕ) (rest : List Symbol)
-    → 0 < power_at operands.Expressions commas.Join rest → after_plus start rest ≡ Ok (Primitive start primitives.Add, rest)
+    → 0 < power_at operands.Expressions commas.Join rest → after_plus start rest ≡ Ok (Primitive start (primitives.Point Add), rest)
 at_plus start [] h = refl
 at_plus start (Integer n ∷ ts) h = absurd (omega arith)
 at_plus start (t ∷ ts) h = refl
 
 at_minus : (start : ℕ) (rest : List Symbol)
-    → 0 < power_at operands.Expressions commas.Join rest → after_minus start rest ≡ Ok (Primitive start primitives.Subtract, rest)
+    → 0 < power_at operands.Expressions commas.Join rest → after_minus start rest ≡ Ok (Primitive start (primitives.Point Sub), rest)
 at_minus start [] h = refl
 at_minus start (Integer n ∷ ts) h = absurd (omega arith)
 at_minus start (Name n ∷ ts) h = absurd (omega arith)
@@ -164,20 +164,18 @@ no_longer plus_number = omega arith
 no_longer minus_number = omega arith
 no_longer minus_name = omega arith
 no_longer named = omega arith
-no_longer wire = omega arith
-no_longer cut = omega arith
 no_longer plus = omega arith
 no_longer minus = omega arith
-no_longer (primitive t p e) = omega arith
+no_longer primitive = omega arith
 no_longer (grouped p) = let a = no_longer p in omega arith
 no_longer (abstracted ns p) = let a = names_shorter ns in let b = no_longer p in omega arith
 no_longer (cased p) = let a = no_longer p in omega arith
 no_longer (waved p) = let a = numbers_shorter p in omega arith
-no_longer (iterated t i e p q) = let a = no_longer p in let b = no_longer q in omega arith
-no_longer (ported t s e p) = let a = no_longer p in omega arith
-no_longer (switched t k e) = omega arith
-no_longer (slid t k e p q r s) = let a = no_longer p in let b = no_longer q in let c = no_longer r in let d = no_longer s in omega arith
-no_longer (paneled t k e p) = let a = no_longer p in omega arith
+no_longer (iterated p q) = let a = no_longer p in let b = no_longer q in omega arith
+no_longer (ported p) = let a = no_longer p in omega arith
+no_longer switched = omega arith
+no_longer (slid p q r s) = let a = no_longer p in let b = no_longer q in let c = no_longer r in let d = no_longer s in omega arith
+no_longer (paneled p) = let a = no_longer p in omega arith
 no_longer atom_number = omega arith
 no_longer atom_plus_number = omega arith
 no_longer atom_minus_number = omega arith
@@ -440,101 +438,93 @@ complete_numbers (more_numbers {ts = ts} {mid = mid} {x = x} s p) off =
 
 -- the leaves
 number_is : (inner : Reader) {n : ℕ} {rest : List Symbol} → primary inner (Integer n ∷ rest) ≡ Ok (Number (length (Integer n ∷ rest)) n, rest)
-unfolding by_head
+unfolding by_first
 number_is inner = refl
 
 plus_number_is : (inner : Reader) {n : ℕ} {rest : List Symbol}
     → primary inner (symbols.Plus ∷ Integer n ∷ rest) ≡ Ok (Number (length (symbols.Plus ∷ Integer n ∷ rest)) n, rest)
-unfolding by_head
+unfolding by_first
 plus_number_is inner = refl
 
 minus_number_is : (inner : Reader) {n : ℕ} {rest : List Symbol}
     → primary inner (symbols.Minus ∷ Integer n ∷ rest) ≡ Ok (Negative (length (symbols.Minus ∷ Integer n ∷ rest)) n, rest)
-unfolding by_head
+unfolding by_first
 minus_number_is inner = refl
 
 minus_name_is : (inner : Reader) {n : ℕ} {rest : List Symbol}
     → primary inner (symbols.Minus ∷ Name n ∷ rest) ≡ Ok (MinusNamed (length (symbols.Minus ∷ Name n ∷ rest)) n, rest)
-unfolding by_head
+unfolding by_first
 minus_name_is inner = refl
 
 named_is : (inner : Reader) {n : ℕ} {rest : List Symbol} → primary inner (Name n ∷ rest) ≡ Ok (Named (length (Name n ∷ rest)) n, rest)
-unfolding by_head
+unfolding by_first
 named_is inner = refl
 
-wire_is : (inner : Reader) {rest : List Symbol} → primary inner (symbols.Underscore ∷ rest) ≡ Ok (Wire (length (symbols.Underscore ∷ rest)), rest)
-unfolding by_head
-wire_is inner = refl
-
-cut_is : (inner : Reader) {rest : List Symbol} → primary inner (symbols.Exclamation ∷ rest) ≡ Ok (Cut (length (symbols.Exclamation ∷ rest)), rest)
-unfolding by_head
-cut_is inner = refl
-
 plus_is : (inner : Reader) (rest : List Symbol) → 0 < power_at operands.Expressions commas.Join rest
-    → primary inner (symbols.Plus ∷ rest) ≡ Ok (Primitive (length (symbols.Plus ∷ rest)) primitives.Add, rest)
-unfolding by_head
+    → primary inner (symbols.Plus ∷ rest) ≡ Ok (Primitive (length (symbols.Plus ∷ rest)) (primitives.Point Add), rest)
+unfolding by_first
 plus_is inner rest h = at_plus (length (symbols.Plus ∷ rest)) rest h
 
 minus_is : (inner : Reader) (rest : List Symbol) → 0 < power_at operands.Expressions commas.Join rest
-    → primary inner (symbols.Minus ∷ rest) ≡ Ok (Primitive (length (symbols.Minus ∷ rest)) primitives.Subtract, rest)
-unfolding by_head
+    → primary inner (symbols.Minus ∷ rest) ≡ Ok (Primitive (length (symbols.Minus ∷ rest)) (primitives.Point Sub), rest)
+unfolding by_first
 minus_is inner rest h = at_minus (length (symbols.Minus ∷ rest)) rest h
 
-primitive_reads : (inner : Reader) (t : Symbol) (p : Operation) (rest : List Symbol)
-    → head t ≡ heads.Primitive p → primary inner (t ∷ rest) ≡ Ok (Primitive (length (t ∷ rest)) p, rest)
-unfolding by_head
-primitive_reads inner t p rest e = ap (λ h. by_head inner h (t ∷ rest) rest) e
+primitive_is : (inner : Reader) {p : Operation} {rest : List Symbol}
+    → primary inner (symbols.Primitive p ∷ rest) ≡ Ok (Primitive (length (symbols.Primitive p ∷ rest)) p, rest)
+unfolding by_first
+primitive_is inner = refl
 
 grouped_reads : (inner : Reader) (ts : List Symbol) (x : Tree) (rest : List Symbol)
     → enclosed inner insides.Expression ts ≡ Ok (x, rest) → primary inner (Open ∷ ts) ≡ Ok (Group (length (Open ∷ ts)) x, rest)
-unfolding by_head
+unfolding by_first
 grouped_reads inner ts x rest e = rw e refl
 
 abstracted_reads : (inner : Reader) (ts mid : List Symbol) (ns : List ℕ) (x : Tree) (rest : List Symbol)
     → name_list ts ≡ Ok (ns, Close ∷ Dot ∷ Open ∷ mid) → enclosed inner insides.Expression mid ≡ Ok (x, rest)
     → primary inner (symbols.Backslash ∷ Open ∷ ts) ≡ Ok (Abstraction (length (symbols.Backslash ∷ Open ∷ ts)) ns x, rest)
-unfolding by_head abstraction
+unfolding by_first abstraction
 abstracted_reads inner ts mid ns x rest e f = rw (e, f) refl
 
 cased_reads : (inner : Reader) (ts : List Symbol) (x : Tree) (rest : List Symbol) → inner insides.Rules ts ≡ Ok (x, CloseBrace ∷ rest)
     → primary inner (symbols.Case ∷ OpenBrace ∷ ts) ≡ Ok (Case (length (symbols.Case ∷ OpenBrace ∷ ts)) x, rest)
-unfolding by_head case_of
+unfolding by_first case_of
 cased_reads inner ts x rest e = rw e refl
 
 waved_reads : (inner : Reader) (ts : List Symbol) (xs : List Literal) (rest : List Symbol) → literal_list ts ≡ Ok (xs, CloseBrace ∷ rest)
     → primary inner (symbols.Waveform ∷ OpenBrace ∷ ts) ≡ Ok (Waveform (length (symbols.Waveform ∷ OpenBrace ∷ ts)) xs, rest)
-unfolding by_head waveform
+unfolding by_first waveform
 waved_reads inner ts xs rest e = rw e refl
 
-iterated_reads : (inner : Reader) (n : ℕ) (ts mid rest : List Symbol) (t : Symbol) (i : Repetition) (x y : Tree)
-    → head t ≡ heads.Iteration i → argument inner ts ≡ Ok (x, mid) → enclosed inner insides.Expression mid ≡ Ok (y, rest)
-    → primary inner (t ∷ Open ∷ Name n ∷ Comma ∷ ts) ≡ Ok (Iteration (length (t ∷ Open ∷ Name n ∷ Comma ∷ ts)) i n x y, rest)
-unfolding by_head iteration
-iterated_reads inner n ts mid rest t i x y e p q = ap (λ h. by_head inner h (t ∷ Open ∷ Name n ∷ Comma ∷ ts) (Open ∷ Name n ∷ Comma ∷ ts)) e ∙ rw (p, q) refl
+iterated_reads : (inner : Reader) (n : ℕ) (ts mid rest : List Symbol) (i : Repetition) (x y : Tree)
+    → argument inner ts ≡ Ok (x, mid) → enclosed inner insides.Expression mid ≡ Ok (y, rest)
+    → primary inner (symbols.Iteration i ∷ Open ∷ Name n ∷ Comma ∷ ts)
+    ≡ Ok (Iteration (length (symbols.Iteration i ∷ Open ∷ Name n ∷ Comma ∷ ts)) i n x y, rest)
+unfolding by_first iteration
+iterated_reads inner n ts mid rest i x y p q = rw (p, q) refl
 
-ported_reads : (inner : Reader) (ts rest : List Symbol) (t : Symbol) (s : Side) (x : Tree)
-    → head t ≡ heads.Ports s → enclosed inner insides.Expression ts ≡ Ok (x, rest)
-    → primary inner (t ∷ Open ∷ ts) ≡ Ok (Ports (length (t ∷ Open ∷ ts)) s x, rest)
-unfolding by_head ports
-ported_reads inner ts rest t s x e p = ap (λ h. by_head inner h (t ∷ Open ∷ ts) (Open ∷ ts)) e ∙ rw p refl
+ported_reads : (inner : Reader) (ts rest : List Symbol) (s : Side) (x : Tree)
+    → enclosed inner insides.Expression ts ≡ Ok (x, rest)
+    → primary inner (symbols.Ports s ∷ Open ∷ ts) ≡ Ok (Ports (length (symbols.Ports s ∷ Open ∷ ts)) s x, rest)
+unfolding by_first ports
+ported_reads inner ts rest s x p = rw p refl
 
-switched_reads : (inner : Reader) (s : ℕ) (rest : List Symbol) (t : Symbol) (k : SwitchKind) → head t ≡ heads.Switch k
-    → primary inner (t ∷ Open ∷ Text s ∷ Close ∷ rest) ≡ Ok (Switch (length (t ∷ Open ∷ Text s ∷ Close ∷ rest)) k s, rest)
-unfolding by_head switch
-switched_reads inner s rest t k e = ap (λ h. by_head inner h (t ∷ Open ∷ Text s ∷ Close ∷ rest) (Open ∷ Text s ∷ Close ∷ rest)) e
+switched_reads : (inner : Reader) (s : ℕ) (rest : List Symbol) (k : SwitchKind)
+    → primary inner (symbols.Switch k ∷ Open ∷ Text s ∷ Close ∷ rest) ≡ Ok (Switch (length (symbols.Switch k ∷ Open ∷ Text s ∷ Close ∷ rest)) k s, rest)
+unfolding by_first switch
+switched_reads inner s rest k = refl
 
-slid_reads : (inner : Reader) (s : ℕ) (ts t1 t2 t3 rest : List Symbol) (t : Symbol) (k : SliderKind) (x0 x1 x2 x3 : Tree) → head t ≡ heads.Slider k
+slid_reads : (inner : Reader) (s : ℕ) (ts t1 t2 t3 rest : List Symbol) (k : SliderKind) (x0 x1 x2 x3 : Tree)
     → argument inner ts ≡ Ok (x0, t1) → argument inner t1 ≡ Ok (x1, t2) → argument inner t2 ≡ Ok (x2, t3) → enclosed inner insides.Argument t3 ≡ Ok (x3, rest)
-    → primary inner (t ∷ Open ∷ Text s ∷ Comma ∷ ts) ≡ Ok (Slider (length (t ∷ Open ∷ Text s ∷ Comma ∷ ts)) k s x0 x1 x2 x3, rest)
-unfolding by_head slider label
-slid_reads inner s ts t1 t2 t3 rest t k x0 x1 x2 x3 e p q r u =
-    ap (λ h. by_head inner h (t ∷ Open ∷ Text s ∷ Comma ∷ ts) (Open ∷ Text s ∷ Comma ∷ ts)) e ∙ rw (p, q, r, u) refl
+    → primary inner (symbols.Slider k ∷ Open ∷ Text s ∷ Comma ∷ ts) ≡ Ok (Slider (length (symbols.Slider k ∷ Open ∷ Text s ∷ Comma ∷ ts)) k s x0 x1 x2 x3, rest)
+unfolding by_first slider label
+slid_reads inner s ts t1 t2 t3 rest k x0 x1 x2 x3 p q r u = rw (p, q, r, u) refl
 
-paneled_reads : (inner : Reader) (s : ℕ) (ts rest : List Symbol) (t : Symbol) (k : PanelKind) (x : Tree)
-    → head t ≡ heads.Panel k → enclosed inner insides.Expression ts ≡ Ok (x, rest)
-    → primary inner (t ∷ Open ∷ Text s ∷ Comma ∷ ts) ≡ Ok (Panel (length (t ∷ Open ∷ Text s ∷ Comma ∷ ts)) k s x, rest)
-unfolding by_head panel label
-paneled_reads inner s ts rest t k x e p = ap (λ h. by_head inner h (t ∷ Open ∷ Text s ∷ Comma ∷ ts) (Open ∷ Text s ∷ Comma ∷ ts)) e ∙ rw p refl
+paneled_reads : (inner : Reader) (s : ℕ) (ts rest : List Symbol) (k : PanelKind) (x : Tree)
+    → enclosed inner insides.Expression ts ≡ Ok (x, rest)
+    → primary inner (symbols.Panel k ∷ Open ∷ Text s ∷ Comma ∷ ts) ≡ Ok (Panel (length (symbols.Panel k ∷ Open ∷ Text s ∷ Comma ∷ ts)) k s x, rest)
+unfolding by_first panel label
+paneled_reads inner s ts rest k x p = rw p refl
 
 -- ---- brackets
 -- an operator is no bracket
@@ -546,15 +536,6 @@ operator_nests limit depth kind comma OpenBrace ts h k n = absurd (omega arith)
 operator_nests limit depth kind comma Close ts h k n = absurd (omega arith)
 operator_nests limit depth kind comma CloseBrace ts h k n = absurd (omega arith)
 operator_nests limit depth kind comma t ts h k n = n
-
--- what begins a form with a keyword is no bracket
-keyword_nests : (limit depth : ℕ) (t : Symbol) (ts : List Symbol)
-    → (head t ≡ heads.Group → ⊥) → (head t ≡ heads.Nothing → ⊥) → Nests limit depth (t ∷ ts) → Nests limit depth ts
-keyword_nests limit depth Open ts g o n = absurd (g refl)
-keyword_nests limit depth OpenBrace ts g o n = absurd (o refl)
-keyword_nests limit depth Close ts g o n = absurd (o refl)
-keyword_nests limit depth CloseBrace ts g o n = absurd (o refl)
-keyword_nests limit depth t ts g o n = n
 
 names_nest : {ts rest : List Symbol} {ns : List ℕ} → SpellsNames ts ns rest → (limit depth : ℕ) → Nests limit depth ts → Nests limit depth rest
 names_nest one_name limit depth h = h
@@ -667,12 +648,9 @@ complete plus_number limit d nesting e n = ((λ follows. plus_number_is (within 
 complete minus_number limit d nesting e n = ((λ follows. minus_number_is (within nesting)), n)
 complete minus_name limit d nesting e n = ((λ follows. minus_name_is (within nesting)), n)
 complete named limit d nesting e n = ((λ follows. named_is (within nesting)), n)
-complete wire limit d nesting e n = ((λ follows. wire_is (within nesting)), n)
-complete cut limit d nesting e n = ((λ follows. cut_is (within nesting)), n)
 complete (plus {rest = rest}) limit d nesting e n = ((λ follows. plus_is (within nesting) rest follows), n)
 complete (minus {rest = rest}) limit d nesting e n = ((λ follows. minus_is (within nesting) rest follows), n)
-complete (primitive {rest = rest} t p h) limit d nesting e n =
-    ((λ follows. primitive_reads (within nesting) t p rest h), keyword_nests limit d t rest (λ g. cc) (λ g. cc) n)
+complete primitive limit d nesting e n = ((λ follows. primitive_is (within nesting)), n)
 complete (grouped {ts = ts} {rest = rest} {x = x} p) limit d nesting e n =
     let le : d + 1 ≤ limit = n.0 in
     let a = complete p limit (suc d) (nesting - 1) (omega arith) n.1 in
@@ -688,40 +666,35 @@ complete (cased {ts = ts} {rest = rest} {x = x} p) limit d nesting e n =
     ((λ follows. cased_reads (within nesting) ts x rest (in_rules nesting ts x rest (omega arith) a.0)), a.1)
 complete (waved {ts = ts} {rest = rest} {xs = xs} p) limit d room e n =
     ((λ follows. waved_reads (within room) ts xs rest (complete_numbers p refl)), numbers_nest p limit (suc d) n.1)
-complete (iterated {n = m} {ts = ts} {mid = mid} {rest = rest} t i {x = x} {y = y} h p q) limit d nesting e n =
-    let front = keyword_nests limit d t (Open ∷ Name m ∷ Comma ∷ ts) (λ g. cc) (λ g. cc) n in
-    let le : d + 1 ≤ limit = front.0 in
-    let a = complete p limit (suc d) (nesting - 1) (omega arith) front.1 in
+complete (iterated {i = i} {n = m} {ts = ts} {mid = mid} {rest = rest} {x = x} {y = y} p q) limit d nesting e n =
+    let le : d + 1 ≤ limit = n.0 in
+    let a = complete p limit (suc d) (nesting - 1) (omega arith) n.1 in
     let b = complete q limit (suc d) (nesting - 1) (omega arith) a.1 in (
-      (λ follows. iterated_reads (within nesting) m ts mid rest t i x y h
+      (λ follows. iterated_reads (within nesting) m ts mid rest i x y
           (in_argument nesting ts x mid (omega arith) a.0) (in_expression nesting mid y rest (omega arith) b.0)),
       b.1,
     )
-complete (ported {ts = ts} {rest = rest} t s {x = x} h p) limit d nesting e n =
-    let front = keyword_nests limit d t (Open ∷ ts) (λ g. cc) (λ g. cc) n in
-    let le : d + 1 ≤ limit = front.0 in
-    let a = complete p limit (suc d) (nesting - 1) (omega arith) front.1 in
-    ((λ follows. ported_reads (within nesting) ts rest t s x h (in_expression nesting ts x rest (omega arith) a.0)), a.1)
-complete (switched {s = s} {rest = rest} t k h) limit d nesting e n =
-    let front = keyword_nests limit d t (Open ∷ Text s ∷ Close ∷ rest) (λ g. cc) (λ g. cc) n in
-    ((λ follows. switched_reads (within nesting) s rest t k h), front.1)
-complete (slid {s = s} {ts = ts} {t1 = t1} {t2 = t2} {t3 = t3} {rest = rest} t k {x0 = x0} {x1 = x1} {x2 = x2} {x3 = x3} h p q r u) limit d nesting e n =
-    let front = keyword_nests limit d t (Open ∷ Text s ∷ Comma ∷ ts) (λ g. cc) (λ g. cc) n in
-    let le : d + 1 ≤ limit = front.0 in
-    let a = complete p limit (suc d) (nesting - 1) (omega arith) front.1 in
+complete (ported {s = s} {ts = ts} {rest = rest} {x = x} p) limit d nesting e n =
+    let le : d + 1 ≤ limit = n.0 in
+    let a = complete p limit (suc d) (nesting - 1) (omega arith) n.1 in
+    ((λ follows. ported_reads (within nesting) ts rest s x (in_expression nesting ts x rest (omega arith) a.0)), a.1)
+complete (switched {k = k} {s = s} {rest = rest}) limit d nesting e n =
+    ((λ follows. switched_reads (within nesting) s rest k), n.1)
+complete (slid {k = k} {s = s} {ts = ts} {t1 = t1} {t2 = t2} {t3 = t3} {rest = rest} {x0 = x0} {x1 = x1} {x2 = x2} {x3 = x3} p q r u) limit d nesting e n =
+    let le : d + 1 ≤ limit = n.0 in
+    let a = complete p limit (suc d) (nesting - 1) (omega arith) n.1 in
     let b = complete q limit (suc d) (nesting - 1) (omega arith) a.1 in
     let c = complete r limit (suc d) (nesting - 1) (omega arith) b.1 in
     let f = complete u limit (suc d) (nesting - 1) (omega arith) c.1 in (
-      (λ follows. slid_reads (within nesting) s ts t1 t2 t3 rest t k x0 x1 x2 x3 h (in_argument nesting ts x0 t1 (omega arith) a.0)
+      (λ follows. slid_reads (within nesting) s ts t1 t2 t3 rest k x0 x1 x2 x3 (in_argument nesting ts x0 t1 (omega arith) a.0)
           (in_argument nesting t1 x1 t2
           (omega arith) b.0) (in_argument nesting t2 x2 t3 (omega arith) c.0) (in_last_argument nesting t3 x3 rest (omega arith) f.0)),
       f.1,
     )
-complete (paneled {s = s} {ts = ts} {rest = rest} t k {x = x} h p) limit d nesting e n =
-    let front = keyword_nests limit d t (Open ∷ Text s ∷ Comma ∷ ts) (λ g. cc) (λ g. cc) n in
-    let le : d + 1 ≤ limit = front.0 in
-    let a = complete p limit (suc d) (nesting - 1) (omega arith) front.1 in
-    ((λ follows. paneled_reads (within nesting) s ts rest t k x h (in_expression nesting ts x rest (omega arith) a.0)), a.1)
+complete (paneled {k = k} {s = s} {ts = ts} {rest = rest} {x = x} p) limit d nesting e n =
+    let le : d + 1 ≤ limit = n.0 in
+    let a = complete p limit (suc d) (nesting - 1) (omega arith) n.1 in
+    ((λ follows. paneled_reads (within nesting) s ts rest k x (in_expression nesting ts x rest (omega arith) a.0)), a.1)
 complete atom_number limit d nesting e n = (refl, n)
 complete atom_plus_number limit d nesting e n = (refl, n)
 complete atom_minus_number limit d nesting e n = (refl, n)

@@ -7,41 +7,39 @@ use Rattle.fv_lex.specs.declared.token.Symbol.{Symbol}
 use Rattle.fv_lex.specs.declared.token.Symbol.TheVariants.{Name, Text, Integer, Comma, Open, Close, OpenBrace, CloseBrace}
 use Rattle.fv_lex.specs.declared.token.Symbol.TheVariants.{Equals, Arrow, Semicolon, Dot, Declare, With, Tick}
 use Rattle.fv_lex.specs.declared.token.Symbol.TheVariants as symbols
-use Rattle.fv_parse_grammar.specs.declared.form.Primitive.TheVariants as primitives
+use Rattle.fv_num.specs.declared.primitive.Primitive.TheVariants as primitives
+use Rattle.fv_num.specs.declared.op.Op.TheVariants.{Add, Sub}
 use Rattle.fv_parse_grammar.specs.headline.Grammar.{SpellsNumbers, waved}
 use Rattle.fv_parse_grammar.specs.Descent.{waveform, Step, Next, rights, chain, Reader, power_at, operator_at}
-use Rattle.fv_parse_grammar.specs.declared.form.Iteration.{Iteration as Repetition}
-use Rattle.fv_parse_grammar.specs.declared.form.Side.{Side}
-use Rattle.fv_parse_grammar.specs.declared.form.Switch.{Switch as SwitchKind}
-use Rattle.fv_parse_grammar.specs.declared.form.Slider.{Slider as SliderKind}
-use Rattle.fv_parse_grammar.specs.declared.form.Panel.{Panel as PanelKind}
-use Rattle.fv_parse_grammar.specs.declared.symbol.Head.{Head}
-use Rattle.fv_parse_grammar.specs.declared.symbol.Head.TheVariants as heads
+use Rattle.fv_lex.specs.declared.form.Iteration.{Iteration as Repetition}
+use Rattle.fv_lex.specs.declared.form.Side.{Side}
+use Rattle.fv_lex.specs.declared.form.Switch.{Switch as SwitchKind}
+use Rattle.fv_lex.specs.declared.form.Slider.{Slider as SliderKind}
+use Rattle.fv_lex.specs.declared.form.Panel.{Panel as PanelKind}
 use Rattle.fv_parse_grammar.specs.declared.symbol.Inside.{Inside}
 use Rattle.fv_parse_grammar.specs.declared.symbol.Inside.TheVariants as insides
 use Rattle.fv_parse_grammar.specs.declared.symbol.Items.{Items}
 use Rattle.fv_parse_grammar.specs.declared.symbol.Items.TheVariants.{Statements, Definitions, Rules, Parts}
 use Rattle.fv_parse_grammar.specs.declared.symbol.Mark.TheVariants as marks
-use Rattle.fv_parse_grammar.specs.headline.Symbols.{head, power, operator, is_left}
-use Rattle.fv_parse_grammar.specs.headline.Tree.{Tree, Number, Negative, Named, MinusNamed, Wire, Cut, Primitive}
+use Rattle.fv_parse_grammar.specs.headline.Symbols.{power, operator, is_left}
+use Rattle.fv_parse_grammar.specs.headline.Tree.{Tree, Number, Negative, Named, MinusNamed, Primitive}
 use Rattle.fv_parse_grammar.specs.headline.Tree.{Group, Abstraction, Case, Iteration, Ports, Switch, Slider}
 use Rattle.fv_parse_grammar.specs.headline.Grammar.{Level, Further, Definition, Expression, Listed, OneRule, Phrase, Postfix, Primary, Atom, SpellsNames}
 use Rattle.fv_parse_grammar.specs.headline.Grammar.{Spells, SpellsProgram, no_more, stated, declared, declared_for, defined, ruled, parted, first_rule}
 use Rattle.fv_parse_grammar.specs.headline.Grammar.{first_part, constant, function, rule, plain, qualified, tighter, leftward, rightward, operand}
-use Rattle.fv_parse_grammar.specs.headline.Grammar.{pattern_operand, bare, delayed, applied, number, plus_number, minus_number, minus_name, named, wire}
-use Rattle.fv_parse_grammar.specs.headline.Grammar.{cut, plus, minus, primitive, grouped, abstracted, cased, iterated, ported, switched, slid, paneled}
+use Rattle.fv_parse_grammar.specs.headline.Grammar.{pattern_operand, bare, delayed, applied, number, plus_number, minus_number, minus_name, named}
+use Rattle.fv_parse_grammar.specs.headline.Grammar.{plus, minus, primitive, grouped, abstracted, cased, iterated, ported, switched, slid, paneled}
 use Rattle.fv_parse_grammar.specs.headline.Grammar.{atom_number, atom_plus_number, atom_minus_number, atom_name, atom_grouped}
 use Rattle.fv_parse_grammar.specs.Descent as descent
-use Rattle.fv_parse_grammar.specs.Descent.{enclosed, argument, group, abstraction, case_of, iteration, ports, switch, label, slider, panel, by_head}
-use Rattle.fv_parse_grammar.specs.Descent.{primary, postfix, postfix_turn, atom_by_head, atom, phrase, left_turn, expression, with_turn, ended}
+use Rattle.fv_parse_grammar.specs.Descent.{enclosed, argument, group, abstraction, case_of, iteration, ports, switch, label, slider, panel, by_first}
+use Rattle.fv_parse_grammar.specs.Descent.{primary, postfix, postfix_turn, atom_by_first, atom, phrase, left_turn, expression, with_turn, ended}
 use Rattle.fv_parse_grammar.specs.Descent.{function_after, constant_after, after_name, definition, one_rule, declared_text, declaration, Item}
 use Rattle.fv_parse_grammar.specs.Descent.{Nothing, Skip, One, Fault, one_of, item, with_item, many, further, listed, within, program, whole_text}
 use Rattle.fv_parse_grammar.specs.declared.symbol.Operands.{Operands}
 use Rattle.fv_parse_grammar.specs.declared.symbol.Commas.{Commas}
 use Rattle.fv_parse_grammar.specs.declared.symbol.Operands.TheVariants as operands
 use Rattle.fv_parse_grammar.specs.declared.symbol.Commas.TheVariants as commas
-use Rattle.fv_parse_grammar.proofs.lemmas.Tokens.{bind_ok, turn_next, took, read_as, expect_ok, a_name_ok, a_text_ok, is_integer, is_name}
-use Rattle.fv_parse_grammar.proofs.lemmas.Tokens.{is_plus, is_minus, is_underscore, is_exclamation, is_open, is_backslash, is_case, is_waveform}
+use Rattle.fv_parse_grammar.proofs.lemmas.Tokens.{bind_ok, turn_next, took, read_as, expect_ok, a_name_ok, a_text_ok}
 use Rattle.fv_parse_grammar.proofs.Separated.{either, run_keeps, names_sound, literals_sound}
 
 -- the level of what stands in brackets
@@ -91,19 +89,20 @@ label_ok ts s rest e =
     expect_ok marks.Open ts opened o ∙ ap (λ r. Open ∷ r) (a_text_ok opened text.0 text.1 texted
     ∙ ap (λ n. Text n ∷ text.1) same.0 ∙ ap (λ r. Text s ∷ r) (expect_ok marks.Comma text.1 end c ∙ ap (λ r. Comma ∷ r) same.1))
 
-switch_sound : (t : Symbol) (k : SwitchKind) → head t ≡ heads.Switch k
-    → (ts : List Symbol) (x : Tree) (rest : List Symbol) → switch (length (t ∷ ts)) k ts ≡ Ok (x, rest) → Spells Primary (t ∷ ts) x rest
+switch_sound : (k : SwitchKind) (ts : List Symbol) (x : Tree) (rest : List Symbol) → switch (length (symbols.Switch k ∷ ts)) k ts ≡ Ok (x, rest)
+    → Spells Primary (symbols.Switch k ∷ ts) x rest
 unfolding switch
-switch_sound t k h ts x rest e =
+switch_sound k ts x rest e =
     let (opened, o, e1) = bind_ok _ _ _ e in
     let (text, texted, e2) = bind_ok _ _ _ e1 in
     let (closed, c, done) = bind_ok _ _ _ e2 in
     let front : ts ≡ Open ∷ Text text.0 ∷ Close ∷ closed = expect_ok marks.Open ts opened o
     ∙ ap (λ r. Open ∷ r) (a_text_ok opened text.0 text.1 texted ∙ ap (λ r. Text text.0 ∷ r) (expect_ok marks.Close text.1 closed c)) in
-    let all : Spells Primary (t ∷ Open ∷ Text text.0 ∷ Close ∷ closed) (Switch (length (t ∷ Open ∷ Text text.0 ∷ Close ∷ closed)) k text.0) closed =
-    switched t k h in
-    moved Primary (t ∷ ts) (Switch (length (t ∷ ts)) k text.0) x closed rest
-    (subst (λ l. Spells Primary (t ∷ l) (Switch (length (t ∷ l)) k text.0) closed) (sym front) all) done
+    let all : Spells Primary (symbols.Switch k ∷ Open ∷ Text text.0 ∷ Close ∷ closed)
+    (Switch (length (symbols.Switch k ∷ Open ∷ Text text.0 ∷ Close ∷ closed)) k text.0) closed =
+    switched in
+    moved Primary (symbols.Switch k ∷ ts) (Switch (length (symbols.Switch k ∷ ts)) k text.0) x closed rest
+    (subst (λ l. Spells Primary (symbols.Switch k ∷ l) (Switch (length (symbols.Switch k ∷ l)) k text.0) closed) (sym front) all) done
 
 -- ---- in brackets
 module _ (inner : Reader) (sound : IsSoundInside inner) where
@@ -166,10 +165,11 @@ module _ (inner : Reader) (sound : IsSoundInside inner) where
       moved Primary (symbols.Case ∷ ts) (Case (length (symbols.Case ∷ ts)) z.0) x closed rest
       (subst (λ l. Spells Primary (symbols.Case ∷ l) (Case (length (symbols.Case ∷ l)) z.0) closed) (sym (expect_ok marks.OpenBrace ts opened o)) all) done
 
-  iteration_sound : (t : Symbol) (i : Repetition) → head t ≡ heads.Iteration i
-      → (ts : List Symbol) (x : Tree) (rest : List Symbol) → iteration inner (length (t ∷ ts)) i ts ≡ Ok (x, rest) → Spells Primary (t ∷ ts) x rest
+  iteration_sound : (i : Repetition) (ts : List Symbol) (x : Tree) (rest : List Symbol)
+      → iteration inner (length (symbols.Iteration i ∷ ts)) i ts ≡ Ok (x, rest)
+      → Spells Primary (symbols.Iteration i ∷ ts) x rest
   unfolding iteration
-  iteration_sound t i h ts x rest e =
+  iteration_sound i ts x rest e =
       let (opened, o, e1) = bind_ok _ _ _ e in
       let (n, named_, e2) = bind_ok _ _ _ e1 in
       let (after_comma, c, e3) = bind_ok _ _ _ e2 in
@@ -177,101 +177,96 @@ module _ (inner : Reader) (sound : IsSoundInside inner) where
       let (body, was, done) = bind_ok _ _ _ e4 in
       let front : ts ≡ Open ∷ Name n.0 ∷ Comma ∷ after_comma = expect_ok marks.Open ts opened o
       ∙ ap (λ r. Open ∷ r) (a_name_ok opened n.0 n.1 named_ ∙ ap (λ r. Name n.0 ∷ r) (expect_ok marks.Comma n.1 after_comma c)) in
-      let all : Spells Primary (t ∷ Open ∷ Name n.0 ∷ Comma ∷ after_comma)
-      (Iteration (length (t ∷ Open ∷ Name n.0 ∷ Comma ∷ after_comma)) i n.0 count.0 body.0) body.1 =
-      iterated t i h (argument_sound after_comma count.0 count.1 counted) (enclosed_sound insides.Expression count.1 body.0 body.1 was) in
-      moved Primary (t ∷ ts) (Iteration (length (t ∷ ts)) i n.0 count.0 body.0) x body.1 rest
-      (subst (λ l. Spells Primary (t ∷ l) (Iteration (length (t ∷ l)) i n.0 count.0 body.0) body.1) (sym front) all) done
+      let all : Spells Primary (symbols.Iteration i ∷ Open ∷ Name n.0 ∷ Comma ∷ after_comma)
+      (Iteration (length (symbols.Iteration i ∷ Open ∷ Name n.0 ∷ Comma ∷ after_comma)) i n.0 count.0 body.0) body.1 =
+      iterated (argument_sound after_comma count.0 count.1 counted) (enclosed_sound insides.Expression count.1 body.0 body.1 was) in
+      moved Primary (symbols.Iteration i ∷ ts) (Iteration (length (symbols.Iteration i ∷ ts)) i n.0 count.0 body.0) x body.1 rest
+      (subst (λ l. Spells Primary (symbols.Iteration i ∷ l) (Iteration (length (symbols.Iteration i ∷ l)) i n.0 count.0 body.0) body.1) (sym front) all) done
 
-  ports_sound : (t : Symbol) (s : Side) → head t ≡ heads.Ports s
-      → (ts : List Symbol) (x : Tree) (rest : List Symbol) → ports inner (length (t ∷ ts)) s ts ≡ Ok (x, rest) → Spells Primary (t ∷ ts) x rest
+  ports_sound : (s : Side) (ts : List Symbol) (x : Tree) (rest : List Symbol) → ports inner (length (symbols.Ports s ∷ ts)) s ts ≡ Ok (x, rest)
+      → Spells Primary (symbols.Ports s ∷ ts) x rest
   unfolding ports
-  ports_sound t s h ts x rest e =
+  ports_sound s ts x rest e =
       let (opened, o, e1) = bind_ok _ _ _ e in
       let (z, was, done) = bind_ok _ _ _ e1 in
-      let all : Spells Primary (t ∷ Open ∷ opened) (Ports (length (t ∷ Open ∷ opened)) s z.0) z.1 =
-      ported t s h (enclosed_sound insides.Expression opened z.0 z.1 was) in
-      moved Primary (t ∷ ts) (Ports (length (t ∷ ts)) s z.0) x z.1 rest
-      (subst (λ l. Spells Primary (t ∷ l) (Ports (length (t ∷ l)) s z.0) z.1) (sym (expect_ok marks.Open ts opened o)) all) done
+      let all : Spells Primary (symbols.Ports s ∷ Open ∷ opened) (Ports (length (symbols.Ports s ∷ Open ∷ opened)) s z.0) z.1 =
+      ported (enclosed_sound insides.Expression opened z.0 z.1 was) in
+      moved Primary (symbols.Ports s ∷ ts) (Ports (length (symbols.Ports s ∷ ts)) s z.0) x z.1 rest
+      (subst (λ l. Spells Primary (symbols.Ports s ∷ l) (Ports (length (symbols.Ports s ∷ l)) s z.0) z.1) (sym (expect_ok marks.Open ts opened o)) all) done
 
-  slider_sound : (t : Symbol) (k : SliderKind) → head t ≡ heads.Slider k
-      → (ts : List Symbol) (x : Tree) (rest : List Symbol) → slider inner (length (t ∷ ts)) k ts ≡ Ok (x, rest) → Spells Primary (t ∷ ts) x rest
+  slider_sound : (k : SliderKind) (ts : List Symbol) (x : Tree) (rest : List Symbol) → slider inner (length (symbols.Slider k ∷ ts)) k ts ≡ Ok (x, rest)
+      → Spells Primary (symbols.Slider k ∷ ts) x rest
   unfolding slider
-  slider_sound t k h ts x rest e =
+  slider_sound k ts x rest e =
       let (text, labelled, e1) = bind_ok _ _ _ e in
       let (x0, r0, e2) = bind_ok _ _ _ e1 in
       let (x1, r1, e3) = bind_ok _ _ _ e2 in
       let (x2, r2, e4) = bind_ok _ _ _ e3 in
       let (x3, r3, done) = bind_ok _ _ _ e4 in
-      let all : Spells Primary (t ∷ Open ∷ Text text.0 ∷ Comma ∷ text.1)
-      (Slider (length (t ∷ Open ∷ Text text.0 ∷ Comma ∷ text.1)) k text.0 x0.0 x1.0 x2.0 x3.0) x3.1 =
-      slid t k h (argument_sound text.1 x0.0 x0.1 r0)
+      let all : Spells Primary (symbols.Slider k ∷ Open ∷ Text text.0 ∷ Comma ∷ text.1)
+      (Slider (length (symbols.Slider k ∷ Open ∷ Text text.0 ∷ Comma ∷ text.1)) k text.0 x0.0 x1.0 x2.0 x3.0) x3.1 =
+      slid (argument_sound text.1 x0.0 x0.1 r0)
       (argument_sound x0.1 x1.0 x1.1 r1) (argument_sound x1.1 x2.0 x2.1 r2) (enclosed_sound insides.Argument x2.1 x3.0 x3.1 r3) in
-      moved Primary (t ∷ ts) (Slider (length (t ∷ ts)) k text.0 x0.0 x1.0 x2.0 x3.0) x x3.1 rest
-      (subst (λ l. Spells Primary (t ∷ l) (Slider (length (t ∷ l)) k text.0 x0.0 x1.0 x2.0 x3.0) x3.1) (sym (label_ok ts text.0 text.1 labelled)) all) done
+      moved Primary (symbols.Slider k ∷ ts) (Slider (length (symbols.Slider k ∷ ts)) k text.0 x0.0 x1.0 x2.0 x3.0) x x3.1 rest
+      (subst (λ l. Spells Primary (symbols.Slider k ∷ l) (Slider (length (symbols.Slider k ∷ l)) k text.0 x0.0 x1.0 x2.0 x3.0) x3.1)
+      (sym (label_ok ts text.0 text.1 labelled)) all) done
 
-  panel_sound : (t : Symbol) (k : PanelKind) → head t ≡ heads.Panel k
-      → (ts : List Symbol) (x : Tree) (rest : List Symbol) → panel inner (length (t ∷ ts)) k ts ≡ Ok (x, rest) → Spells Primary (t ∷ ts) x rest
+  panel_sound : (k : PanelKind) (ts : List Symbol) (x : Tree) (rest : List Symbol) → panel inner (length (symbols.Panel k ∷ ts)) k ts ≡ Ok (x, rest)
+      → Spells Primary (symbols.Panel k ∷ ts) x rest
   unfolding panel
-  panel_sound t k h ts x rest e =
+  panel_sound k ts x rest e =
       let (text, labelled, e1) = bind_ok _ _ _ e in
       let (z, was, done) = bind_ok _ _ _ e1 in
-      let all : Spells Primary (t ∷ Open ∷ Text text.0 ∷ Comma ∷ text.1) (Panel (length (t ∷ Open ∷ Text text.0 ∷ Comma ∷ text.1)) k text.0 z.0) z.1 =
-      paneled t k h (enclosed_sound insides.Expression text.1 z.0 z.1 was) in
-      moved Primary (t ∷ ts) (Panel (length (t ∷ ts)) k text.0 z.0) x z.1 rest
-      (subst (λ l. Spells Primary (t ∷ l) (Panel (length (t ∷ l)) k text.0 z.0) z.1) (sym (label_ok ts text.0 text.1 labelled)) all) done
-
--- what spells a tree from a token on, at a token that is equal
-begun : (level : Level) (t u : Symbol) (ts : List Symbol) (x : Tree) (rest : List Symbol) → t ≡ u → Spells level (u ∷ ts) x rest → Spells level (t ∷ ts) x rest
-begun level t u ts x rest e s = subst (λ v. Spells level (v ∷ ts) x rest) (sym e) s
+      let all : Spells Primary (symbols.Panel k ∷ Open ∷ Text text.0 ∷ Comma ∷ text.1)
+      (Panel (length (symbols.Panel k ∷ Open ∷ Text text.0 ∷ Comma ∷ text.1)) k text.0 z.0) z.1 =
+      paneled (enclosed_sound insides.Expression text.1 z.0 z.1 was) in
+      moved Primary (symbols.Panel k ∷ ts) (Panel (length (symbols.Panel k ∷ ts)) k text.0 z.0) x z.1 rest
+      (subst (λ l. Spells Primary (symbols.Panel k ∷ l) (Panel (length (symbols.Panel k ∷ l)) k text.0 z.0) z.1)
+      (sym (label_ok ts text.0 text.1 labelled)) all) done
 
 after_plus_sound : (ts : List Symbol) (x : Tree) (rest : List Symbol)
     → descent.after_plus (length (symbols.Plus ∷ ts)) ts ≡ Ok (x, rest) → Spells Primary (symbols.Plus ∷ ts) x rest
-after_plus_sound [] x rest e = moved Primary (symbols.Plus ∷ []) (Primitive (length (symbols.Plus ∷ [])) primitives.Add) x [] rest plus e
+after_plus_sound [] x rest e = moved Primary (symbols.Plus ∷ []) (Primitive (length (symbols.Plus ∷ [])) (primitives.Point Add)) x [] rest plus e
 after_plus_sound (Integer n ∷ ts) x rest e =
     moved Primary (symbols.Plus ∷ Integer n ∷ ts) (Number (length (symbols.Plus ∷ Integer n ∷ ts)) n) x ts rest plus_number e
-after_plus_sound (t ∷ ts) x rest e = moved Primary (symbols.Plus ∷ t ∷ ts) (Primitive (length (symbols.Plus ∷ t ∷ ts)) primitives.Add) x (t ∷ ts) rest plus e
+after_plus_sound (t ∷ ts) x rest e =
+    moved Primary (symbols.Plus ∷ t ∷ ts) (Primitive (length (symbols.Plus ∷ t ∷ ts)) (primitives.Point Add)) x (t ∷ ts) rest plus e
 
 after_minus_sound : (ts : List Symbol) (x : Tree) (rest : List Symbol)
     → descent.after_minus (length (symbols.Minus ∷ ts)) ts ≡ Ok (x, rest) → Spells Primary (symbols.Minus ∷ ts) x rest
-after_minus_sound [] x rest e = moved Primary (symbols.Minus ∷ []) (Primitive (length (symbols.Minus ∷ [])) primitives.Subtract) x [] rest minus e
+after_minus_sound [] x rest e = moved Primary (symbols.Minus ∷ []) (Primitive (length (symbols.Minus ∷ [])) (primitives.Point Sub)) x [] rest minus e
 after_minus_sound (Integer n ∷ ts) x rest e =
     moved Primary (symbols.Minus ∷ Integer n ∷ ts) (Negative (length (symbols.Minus ∷ Integer n ∷ ts)) n) x ts rest minus_number e
 after_minus_sound (Name n ∷ ts) x rest e =
     moved Primary (symbols.Minus ∷ Name n ∷ ts) (MinusNamed (length (symbols.Minus ∷ Name n ∷ ts)) n) x ts rest minus_name e
 after_minus_sound (t ∷ ts) x rest e =
-    moved Primary (symbols.Minus ∷ t ∷ ts) (Primitive (length (symbols.Minus ∷ t ∷ ts)) primitives.Subtract) x (t ∷ ts) rest minus e
+    moved Primary (symbols.Minus ∷ t ∷ ts) (Primitive (length (symbols.Minus ∷ t ∷ ts)) (primitives.Point Sub)) x (t ∷ ts) rest minus e
 
 -- by a sound reader inside brackets
 module _ (inner : Reader) (sound : IsSoundInside inner) where
-  by_head_sound : (h : Head) (t : Symbol) (ts : List Symbol) (x : Tree) (rest : List Symbol)
-      → head t ≡ h → by_head inner h (t ∷ ts) ts ≡ Ok (x, rest) → Spells Primary (t ∷ ts) x rest
-  unfolding by_head
-  by_head_sound (heads.Integer n) t ts x rest h e =
-      moved Primary (t ∷ ts) (Number (length (t ∷ ts)) n) x ts rest (begun Primary t (Integer n) ts (Number (length (t ∷ ts)) n) ts (is_integer t n h) number) e
-  by_head_sound (heads.Name n) t ts x rest h e =
-      moved Primary (t ∷ ts) (Named (length (t ∷ ts)) n) x ts rest (begun Primary t (Name n) ts (Named (length (t ∷ ts)) n) ts (is_name t n h) named) e
-  by_head_sound heads.Plus t ts x rest h e = begun Primary t symbols.Plus ts x rest (is_plus t h) (after_plus_sound ts x rest e)
-  by_head_sound heads.Minus t ts x rest h e = begun Primary t symbols.Minus ts x rest (is_minus t h) (after_minus_sound ts x rest e)
-  by_head_sound heads.Wire t ts x rest h e =
-      moved Primary (t ∷ ts) (Wire (length (t ∷ ts))) x ts rest (begun Primary t symbols.Underscore ts (Wire (length (t ∷ ts))) ts (is_underscore t h) wire) e
-  by_head_sound heads.Cut t ts x rest h e =
-      moved Primary (t ∷ ts) (Cut (length (t ∷ ts))) x ts rest (begun Primary t symbols.Exclamation ts (Cut (length (t ∷ ts))) ts (is_exclamation t h) cut) e
-  by_head_sound (heads.Primitive p) t ts x rest h e = moved Primary (t ∷ ts) (Primitive (length (t ∷ ts)) p) x ts rest (primitive t p h) e
-  by_head_sound heads.Group t ts x rest h e = begun Primary t Open ts x rest (is_open t h) (group_sound inner sound ts x rest e)
-  by_head_sound heads.Abstraction t ts x rest h e = begun Primary t symbols.Backslash ts x rest (is_backslash t h) (abstraction_sound inner sound ts x rest e)
-  by_head_sound heads.Case t ts x rest h e = begun Primary t symbols.Case ts x rest (is_case t h) (case_sound inner sound ts x rest e)
-  by_head_sound heads.Waveform t ts x rest h e = begun Primary t symbols.Waveform ts x rest (is_waveform t h) (waveform_sound ts x rest e)
-  by_head_sound (heads.Iteration i) t ts x rest h e = iteration_sound inner sound t i h ts x rest e
-  by_head_sound (heads.Ports s) t ts x rest h e = ports_sound inner sound t s h ts x rest e
-  by_head_sound (heads.Switch k) t ts x rest h e = switch_sound t k h ts x rest e
-  by_head_sound (heads.Slider k) t ts x rest h e = slider_sound inner sound t k h ts x rest e
-  by_head_sound (heads.Panel k) t ts x rest h e = panel_sound inner sound t k h ts x rest e
-  by_head_sound heads.Nothing t ts x rest h e = absurd cc
+  by_first_sound : (t : Symbol) (ts : List Symbol) (x : Tree) (rest : List Symbol)
+      → by_first inner t (t ∷ ts) ts ≡ Ok (x, rest) → Spells Primary (t ∷ ts) x rest
+  unfolding by_first
+  by_first_sound (Integer n) ts x rest e = moved Primary (Integer n ∷ ts) (Number (length (Integer n ∷ ts)) n) x ts rest number e
+  by_first_sound (Name n) ts x rest e = moved Primary (Name n ∷ ts) (Named (length (Name n ∷ ts)) n) x ts rest named e
+  by_first_sound symbols.Plus ts x rest e = after_plus_sound ts x rest e
+  by_first_sound symbols.Minus ts x rest e = after_minus_sound ts x rest e
+  by_first_sound (symbols.Primitive p) ts x rest e =
+      moved Primary (symbols.Primitive p ∷ ts) (Primitive (length (symbols.Primitive p ∷ ts)) p) x ts rest primitive e
+  by_first_sound Open ts x rest e = group_sound inner sound ts x rest e
+  by_first_sound symbols.Backslash ts x rest e = abstraction_sound inner sound ts x rest e
+  by_first_sound symbols.Case ts x rest e = case_sound inner sound ts x rest e
+  by_first_sound symbols.Waveform ts x rest e = waveform_sound ts x rest e
+  by_first_sound (symbols.Iteration i) ts x rest e = iteration_sound inner sound i ts x rest e
+  by_first_sound (symbols.Ports s) ts x rest e = ports_sound inner sound s ts x rest e
+  by_first_sound (symbols.Switch k) ts x rest e = switch_sound k ts x rest e
+  by_first_sound (symbols.Slider k) ts x rest e = slider_sound inner sound k ts x rest e
+  by_first_sound (symbols.Panel k) ts x rest e = panel_sound inner sound k ts x rest e
+  by_first_sound t ts x rest e = absurd cc
 
   primary_sound : IsSound Primary (primary inner)
   primary_sound [] x rest e = absurd cc
-  primary_sound (t ∷ ts) x rest e = by_head_sound (head t) t ts x rest refl e
+  primary_sound (t ∷ ts) x rest e = by_first_sound t ts x rest e
 
   -- ---- postfix
   postfix_step : (all : List Symbol) (x : Tree) (ts : List Symbol) (y : Tree) (rest : List Symbol)
@@ -309,21 +304,18 @@ minus_number_sound (t ∷ ts) x rest e = absurd cc
 
 -- by a sound reader inside brackets
 module _ (inner : Reader) (sound : IsSoundInside inner) where
-  atom_by_head_sound : (h : Head) (t : Symbol) (ts : List Symbol) (x : Tree) (rest : List Symbol)
-      → head t ≡ h → atom_by_head inner h (t ∷ ts) ts ≡ Ok (x, rest) → Spells Atom (t ∷ ts) x rest
-  atom_by_head_sound (heads.Integer n) t ts x rest h e =
-      moved Atom (t ∷ ts) (Number (length (t ∷ ts)) n) x ts rest (begun Atom t (Integer n) ts (Number (length (t ∷ ts)) n) ts (is_integer t n h) atom_number) e
-  atom_by_head_sound (heads.Name n) t ts x rest h e =
-      moved Atom (t ∷ ts) (Named (length (t ∷ ts)) n) x ts rest (begun Atom t (Name n) ts (Named (length (t ∷ ts)) n) ts (is_name t n h) atom_name) e
-  atom_by_head_sound heads.Plus t ts x rest h e = begun Atom t symbols.Plus ts x rest (is_plus t h) (plus_number_sound ts x rest e)
-  atom_by_head_sound heads.Minus t ts x rest h e = begun Atom t symbols.Minus ts x rest (is_minus t h) (minus_number_sound ts x rest e)
-  atom_by_head_sound heads.Group t ts x rest h e =
-      begun Atom t Open ts x rest (is_open t h) (atom_grouped (enclosed_sound inner sound insides.Pattern ts x rest e))
-  atom_by_head_sound other t ts x rest h e = absurd cc
+  atom_by_first_sound : (t : Symbol) (ts : List Symbol) (x : Tree) (rest : List Symbol)
+      → atom_by_first inner t (t ∷ ts) ts ≡ Ok (x, rest) → Spells Atom (t ∷ ts) x rest
+  atom_by_first_sound (Integer n) ts x rest e = moved Atom (Integer n ∷ ts) (Number (length (Integer n ∷ ts)) n) x ts rest atom_number e
+  atom_by_first_sound (Name n) ts x rest e = moved Atom (Name n ∷ ts) (Named (length (Name n ∷ ts)) n) x ts rest atom_name e
+  atom_by_first_sound symbols.Plus ts x rest e = plus_number_sound ts x rest e
+  atom_by_first_sound symbols.Minus ts x rest e = minus_number_sound ts x rest e
+  atom_by_first_sound Open ts x rest e = atom_grouped (enclosed_sound inner sound insides.Pattern ts x rest e)
+  atom_by_first_sound t ts x rest e = absurd cc
 
   atom_sound : IsSound Atom (atom inner)
   atom_sound [] x rest e = absurd cc
-  atom_sound (t ∷ ts) x rest e = atom_by_head_sound (head t) t ts x rest refl e
+  atom_sound (t ∷ ts) x rest e = atom_by_first_sound t ts x rest e
 
   operand_sound : (kind : Operands) (comma : Commas) → IsSound (Phrase kind comma zero) (descent.operand inner kind)
   operand_sound operands.Patterns comma ts x rest e = pattern_operand (atom_sound ts x rest e)

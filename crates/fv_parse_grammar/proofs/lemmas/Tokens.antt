@@ -1,12 +1,10 @@
 -- Which tokens stand where single ones are read.
 use Rattle.std.proofs.Common.{◌≡◌, ℕ, Bool, true, false, cond, List, [], ◌∷◌, drop, Result, Ok, Err, refl, ap, ap₂}
 use Rattle.fv_lex.specs.declared.token.Symbol.{Symbol}
-use Rattle.fv_lex.specs.declared.token.Symbol.TheVariants.{Name, Text, Integer, Comma, Open}
+use Rattle.fv_lex.specs.declared.token.Symbol.TheVariants.{Name, Text, Comma}
 use Rattle.fv_lex.specs.declared.token.Symbol.TheVariants as symbols
-use Rattle.fv_parse_grammar.specs.declared.symbol.Head.TheVariants as heads
 use Rattle.fv_parse_grammar.specs.declared.symbol.Mark.{Mark}
 use Rattle.fv_parse_grammar.specs.declared.symbol.Mark.TheVariants as marks
-use Rattle.fv_parse_grammar.specs.headline.Symbols.{head}
 use Rattle.fv_parse_grammar.specs.Symbols.{is_mark}
 use Rattle.fv_parse_grammar.specs.inner.Symbols.{sign}
 use Rattle.fv_parse_grammar.specs.headline.Tree.{Tree}
@@ -66,44 +64,3 @@ pub at_comma_is : (ts : List Symbol) → at_comma ts ≡ true → ts ≡ Comma �
 at_comma_is (Comma ∷ ts) e = refl
 at_comma_is [] e = absurd cc
 at_comma_is (t ∷ ts) e = absurd cc
-
--- ---- the token that a head is of
-pub is_integer : (t : Symbol) (n : ℕ) → head t ≡ heads.Integer n → t ≡ Integer n
-is_integer (Integer m) n e = let p : m ≡ n = cc in ap Integer p
-is_integer t n e = absurd cc
-
-pub is_name : (t : Symbol) (n : ℕ) → head t ≡ heads.Name n → t ≡ Name n
-is_name (Name m) n e = let p : m ≡ n = cc in ap Name p
-is_name t n e = absurd cc
-
-pub is_plus : (t : Symbol) → head t ≡ heads.Plus → t ≡ symbols.Plus
-is_plus symbols.Plus e = refl
-is_plus t e = absurd cc
-
-pub is_minus : (t : Symbol) → head t ≡ heads.Minus → t ≡ symbols.Minus
-is_minus symbols.Minus e = refl
-is_minus t e = absurd cc
-
-pub is_underscore : (t : Symbol) → head t ≡ heads.Wire → t ≡ symbols.Underscore
-is_underscore symbols.Underscore e = refl
-is_underscore t e = absurd cc
-
-pub is_exclamation : (t : Symbol) → head t ≡ heads.Cut → t ≡ symbols.Exclamation
-is_exclamation symbols.Exclamation e = refl
-is_exclamation t e = absurd cc
-
-pub is_open : (t : Symbol) → head t ≡ heads.Group → t ≡ Open
-is_open Open e = refl
-is_open t e = absurd cc
-
-pub is_backslash : (t : Symbol) → head t ≡ heads.Abstraction → t ≡ symbols.Backslash
-is_backslash symbols.Backslash e = refl
-is_backslash t e = absurd cc
-
-pub is_case : (t : Symbol) → head t ≡ heads.Case → t ≡ symbols.Case
-is_case symbols.Case e = refl
-is_case t e = absurd cc
-
-pub is_waveform : (t : Symbol) → head t ≡ heads.Waveform → t ≡ symbols.Waveform
-is_waveform symbols.Waveform e = refl
-is_waveform t e = absurd cc

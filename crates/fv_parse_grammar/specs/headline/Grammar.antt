@@ -5,20 +5,20 @@ use Rattle.fv_lex.specs.declared.token.Symbol.{Symbol}
 use Rattle.fv_lex.specs.declared.token.Symbol.TheVariants as symbols
 use Rattle.fv_lex.specs.declared.token.Symbol.TheVariants.{Name, Text, Integer, Comma, Open, Close, OpenBrace, CloseBrace}
 use Rattle.fv_lex.specs.declared.token.Symbol.TheVariants.{Equals, Arrow, Semicolon, Dot, Declare, With, Tick}
-use Rattle.fv_parse_grammar.specs.declared.form.Primitive.TheVariants as primitives
-use Rattle.fv_parse_grammar.specs.declared.form.Primitive.{Primitive as Operation}
+use Rattle.fv_num.specs.declared.op.Op.TheVariants.{Add, Sub}
+use Rattle.fv_num.specs.declared.primitive.Primitive.{Primitive as Operation}
+use Rattle.fv_num.specs.declared.primitive.Primitive.TheVariants as primitives
 use Rattle.fv_parse_grammar.specs.declared.form.Literal.{Literal}
 use Rattle.fv_parse_grammar.specs.declared.form.Literal.TheVariants as literals
-use Rattle.fv_parse_grammar.specs.declared.form.Iteration.{Iteration as Repetition}
-use Rattle.fv_parse_grammar.specs.declared.form.Side.{Side}
-use Rattle.fv_parse_grammar.specs.declared.form.Switch.{Switch as SwitchKind}
-use Rattle.fv_parse_grammar.specs.declared.form.Slider.{Slider as SliderKind}
-use Rattle.fv_parse_grammar.specs.declared.form.Panel.{Panel as PanelKind}
-use Rattle.fv_parse_grammar.specs.declared.symbol.Head.TheVariants as heads
+use Rattle.fv_lex.specs.declared.form.Iteration.{Iteration as Repetition}
+use Rattle.fv_lex.specs.declared.form.Side.{Side}
+use Rattle.fv_lex.specs.declared.form.Switch.{Switch as SwitchKind}
+use Rattle.fv_lex.specs.declared.form.Slider.{Slider as SliderKind}
+use Rattle.fv_lex.specs.declared.form.Panel.{Panel as PanelKind}
 use Rattle.fv_parse_grammar.specs.declared.symbol.Items.{Items}
 use Rattle.fv_parse_grammar.specs.declared.symbol.Items.TheVariants.{Statements, Definitions, Rules, Parts}
-use Rattle.fv_parse_grammar.specs.headline.Symbols.{head, power, operator, is_left}
-use Rattle.fv_parse_grammar.specs.headline.Tree.{Tree, Number, Negative, Named, MinusNamed, Wire, Cut, Primitive}
+use Rattle.fv_parse_grammar.specs.headline.Symbols.{power, operator, is_left}
+use Rattle.fv_parse_grammar.specs.headline.Tree.{Tree, Number, Negative, Named, MinusNamed, Primitive}
 use Rattle.fv_parse_grammar.specs.headline.Tree.{Group, Abstraction, Case, Iteration, Ports, Switch, Slider}
 use Rattle.fv_parse_grammar.specs.declared.symbol.Operands.{Operands}
 use Rattle.fv_parse_grammar.specs.declared.symbol.Commas.{Commas}
@@ -119,11 +119,9 @@ pub data Spells : Level → List Symbol → Tree → List Symbol → Type 0 wher
   minus_number : {n : ℕ} {rest : List Symbol} → Spells Primary (symbols.Minus ∷ Integer n ∷ rest) (Negative (length (symbols.Minus ∷ Integer n ∷ rest)) n) rest
   minus_name : {n : ℕ} {rest : List Symbol} → Spells Primary (symbols.Minus ∷ Name n ∷ rest) (MinusNamed (length (symbols.Minus ∷ Name n ∷ rest)) n) rest
   named : {n : ℕ} {rest : List Symbol} → Spells Primary (Name n ∷ rest) (Named (length (Name n ∷ rest)) n) rest
-  wire : {rest : List Symbol} → Spells Primary (symbols.Underscore ∷ rest) (Wire (length (symbols.Underscore ∷ rest))) rest
-  cut : {rest : List Symbol} → Spells Primary (symbols.Exclamation ∷ rest) (Cut (length (symbols.Exclamation ∷ rest))) rest
-  plus : {rest : List Symbol} → Spells Primary (symbols.Plus ∷ rest) (Primitive (length (symbols.Plus ∷ rest)) primitives.Add) rest
-  minus : {rest : List Symbol} → Spells Primary (symbols.Minus ∷ rest) (Primitive (length (symbols.Minus ∷ rest)) primitives.Subtract) rest
-  primitive : {rest : List Symbol} (t : Symbol) (p : Operation) → head t ≡ heads.Primitive p → Spells Primary (t ∷ rest) (Primitive (length (t ∷ rest)) p) rest
+  plus : {rest : List Symbol} → Spells Primary (symbols.Plus ∷ rest) (Primitive (length (symbols.Plus ∷ rest)) (primitives.Point Add)) rest
+  minus : {rest : List Symbol} → Spells Primary (symbols.Minus ∷ rest) (Primitive (length (symbols.Minus ∷ rest)) (primitives.Point Sub)) rest
+  primitive : {p : Operation} {rest : List Symbol} → Spells Primary (symbols.Primitive p ∷ rest) (Primitive (length (symbols.Primitive p ∷ rest)) p) rest
   -- "(" expression ")"
   grouped : {ts rest : List Symbol} {x : Tree} → Spells Expression ts x (Close ∷ rest) → Spells Primary (Open ∷ ts) (Group (length (Open ∷ ts)) x) rest
   -- "\" "(" names ")" "." "(" expression ")"
@@ -136,23 +134,23 @@ pub data Spells : Level → List Symbol → Tree → List Symbol → Type 0 wher
   waved : {ts rest : List Symbol} {xs : List Literal} → SpellsNumbers ts xs (CloseBrace ∷ rest)
       → Spells Primary (symbols.Waveform ∷ OpenBrace ∷ ts) (Waveform (length (symbols.Waveform ∷ OpenBrace ∷ ts)) xs) rest
   -- ("par" | "seq" | "sum" | "prod") "(" name "," argument "," expression ")"
-  iterated : {n : ℕ} {ts mid rest : List Symbol} (t : Symbol) (i : Repetition) {x y : Tree}
-      → head t ≡ heads.Iteration i → Spells (Phrase operands.Expressions commas.Separate 8) ts x (Comma ∷ mid) → Spells Expression mid y (Close ∷ rest)
-      → Spells Primary (t ∷ Open ∷ Name n ∷ Comma ∷ ts) (Iteration (length (t ∷ Open ∷ Name n ∷ Comma ∷ ts)) i n x y) rest
+  iterated : {i : Repetition} {n : ℕ} {ts mid rest : List Symbol} {x y : Tree}
+      → Spells (Phrase operands.Expressions commas.Separate 8) ts x (Comma ∷ mid) → Spells Expression mid y (Close ∷ rest) → Spells Primary
+      (symbols.Iteration i ∷ Open ∷ Name n ∷ Comma ∷ ts) (Iteration (length (symbols.Iteration i ∷ Open ∷ Name n ∷ Comma ∷ ts)) i n x y) rest
   -- ("inputs" | "outputs") "(" expression ")"
-  ported : {ts rest : List Symbol} (t : Symbol) (s : Side) {x : Tree} → head t ≡ heads.Ports s → Spells Expression ts x (Close ∷ rest)
-      → Spells Primary (t ∷ Open ∷ ts) (Ports (length (t ∷ Open ∷ ts)) s x) rest
+  ported : {s : Side} {ts rest : List Symbol} {x : Tree} → Spells Expression ts x (Close ∷ rest)
+      → Spells Primary (symbols.Ports s ∷ Open ∷ ts) (Ports (length (symbols.Ports s ∷ Open ∷ ts)) s x) rest
   -- ("button" | "checkbox") "(" string ")"
-  switched : {s : ℕ} {rest : List Symbol} (t : Symbol) (k : SwitchKind) → head t ≡ heads.Switch k
-      → Spells Primary (t ∷ Open ∷ Text s ∷ Close ∷ rest) (Switch (length (t ∷ Open ∷ Text s ∷ Close ∷ rest)) k s) rest
+  switched : {k : SwitchKind} {s : ℕ} {rest : List Symbol} → Spells Primary
+      (symbols.Switch k ∷ Open ∷ Text s ∷ Close ∷ rest) (Switch (length (symbols.Switch k ∷ Open ∷ Text s ∷ Close ∷ rest)) k s) rest
   -- ("hslider" | "vslider" | "nentry") "(" string "," argument "," argument "," argument "," argument ")"
-  slid : {s : ℕ} {ts t1 t2 t3 rest : List Symbol} (t : Symbol) (k : SliderKind) {x0 x1 x2 x3 : Tree} → head t ≡ heads.Slider k
+  slid : {k : SliderKind} {s : ℕ} {ts t1 t2 t3 rest : List Symbol} {x0 x1 x2 x3 : Tree}
       → Spells (Phrase operands.Expressions commas.Separate 8) ts x0 (Comma ∷ t1) → Spells (Phrase operands.Expressions commas.Separate 8) t1 x1 (Comma ∷ t2)
       → Spells (Phrase operands.Expressions commas.Separate 8) t2 x2 (Comma ∷ t3) → Spells (Phrase operands.Expressions commas.Separate 8) t3 x3 (Close ∷ rest)
-      → Spells Primary (t ∷ Open ∷ Text s ∷ Comma ∷ ts) (Slider (length (t ∷ Open ∷ Text s ∷ Comma ∷ ts)) k s x0 x1 x2 x3) rest
+      → Spells Primary (symbols.Slider k ∷ Open ∷ Text s ∷ Comma ∷ ts) (Slider (length (symbols.Slider k ∷ Open ∷ Text s ∷ Comma ∷ ts)) k s x0 x1 x2 x3) rest
   -- ("hgroup" | "vgroup" | "tgroup") "(" string "," expression ")"
-  paneled : {s : ℕ} {ts rest : List Symbol} (t : Symbol) (k : PanelKind) {x : Tree} → head t ≡ heads.Panel k → Spells Expression ts x (Close ∷ rest)
-      → Spells Primary (t ∷ Open ∷ Text s ∷ Comma ∷ ts) (Panel (length (t ∷ Open ∷ Text s ∷ Comma ∷ ts)) k s x) rest
+  paneled : {k : PanelKind} {s : ℕ} {ts rest : List Symbol} {x : Tree} → Spells Expression ts x (Close ∷ rest)
+      → Spells Primary (symbols.Panel k ∷ Open ∷ Text s ∷ Comma ∷ ts) (Panel (length (symbols.Panel k ∷ Open ∷ Text s ∷ Comma ∷ ts)) k s x) rest
   -- what stands in a pattern
   atom_number : {n : ℕ} {rest : List Symbol} → Spells Atom (Integer n ∷ rest) (Number (length (Integer n ∷ rest)) n) rest
   atom_plus_number : {n : ℕ} {rest : List Symbol} → Spells Atom (symbols.Plus ∷ Integer n ∷ rest) (Number (length (symbols.Plus ∷ Integer n ∷ rest)) n) rest

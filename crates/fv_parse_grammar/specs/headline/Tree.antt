@@ -1,13 +1,13 @@
 -- The trees that the grammar spells.
 use Rattle.std.specs.Prelude.{ℕ, List, [], ◌∷◌}
-use Rattle.fv_parse_grammar.specs.declared.form.Primitive.{Primitive as Operation}
+use Rattle.fv_num.specs.declared.primitive.Primitive.{Primitive as Operation}
 use Rattle.fv_parse_grammar.specs.declared.form.Operator.{Operator}
 use Rattle.fv_parse_grammar.specs.declared.form.Literal.{Literal}
-use Rattle.fv_parse_grammar.specs.declared.form.Iteration.{Iteration as Repetition}
-use Rattle.fv_parse_grammar.specs.declared.form.Side.{Side}
-use Rattle.fv_parse_grammar.specs.declared.form.Switch.{Switch as SwitchKind}
-use Rattle.fv_parse_grammar.specs.declared.form.Slider.{Slider as SliderKind}
-use Rattle.fv_parse_grammar.specs.declared.form.Panel.{Panel as PanelKind}
+use Rattle.fv_lex.specs.declared.form.Iteration.{Iteration as Repetition}
+use Rattle.fv_lex.specs.declared.form.Side.{Side}
+use Rattle.fv_lex.specs.declared.form.Switch.{Switch as SwitchKind}
+use Rattle.fv_lex.specs.declared.form.Slider.{Slider as SliderKind}
+use Rattle.fv_lex.specs.declared.form.Panel.{Panel as PanelKind}
 
 -- A tree. Each form begins with its place: how many tokens there are from its first one to the end of the text.
 -- A name or a label is the number of its token. A list of trees is `More first rest`, ended by `End`.
@@ -16,8 +16,6 @@ pub data Tree : Type 0 where
   Negative : ℕ → ℕ → Tree
   Named : ℕ → ℕ → Tree
   MinusNamed : ℕ → ℕ → Tree
-  Wire : ℕ → Tree
-  Cut : ℕ → Tree
   Primitive : ℕ → Operation → Tree
   Group : ℕ → Tree → Tree
   Abstraction : ℕ → List ℕ → Tree → Tree
@@ -50,8 +48,6 @@ start_of (Number s n) = s
 start_of (Negative s n) = s
 start_of (Named s n) = s
 start_of (MinusNamed s n) = s
-start_of (Wire s) = s
-start_of (Cut s) = s
 start_of (Primitive s p) = s
 start_of (Group s x) = s
 start_of (Abstraction s ns x) = s

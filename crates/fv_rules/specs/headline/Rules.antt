@@ -7,22 +7,20 @@ use Rattle.fv_diagram.specs.Words.{wrap, argument}
 use Rattle.fv_diagram.specs.Op.TheVariants as op
 use Rattle.fv_parse_grammar.specs.headline.Tree.{Tree, items, start_of}
 use Rattle.fv_parse_grammar.specs.headline.Tree as tree
-use Rattle.fv_parse_grammar.specs.declared.form.Primitive.{Primitive as Operation}
-use Rattle.fv_parse_grammar.specs.declared.form.Primitive.TheVariants as operations
 use Rattle.fv_parse_grammar.specs.declared.form.Literal.{Literal}
 use Rattle.fv_parse_grammar.specs.declared.form.Literal.TheVariants as literals
 use Rattle.fv_parse_grammar.specs.declared.form.Operator.{Operator}
 use Rattle.fv_parse_grammar.specs.declared.form.Operator.TheVariants as operators
-use Rattle.fv_parse_grammar.specs.declared.form.Iteration.{Iteration as Repetition}
-use Rattle.fv_parse_grammar.specs.declared.form.Iteration.TheVariants as repetitions
-use Rattle.fv_parse_grammar.specs.declared.form.Side.{Side}
-use Rattle.fv_parse_grammar.specs.declared.form.Side.TheVariants as sides
-use Rattle.fv_parse_grammar.specs.declared.form.Switch.{Switch as SwitchKind}
-use Rattle.fv_parse_grammar.specs.declared.form.Switch.TheVariants as switches
-use Rattle.fv_parse_grammar.specs.declared.form.Slider.{Slider as SliderKind}
-use Rattle.fv_parse_grammar.specs.declared.form.Slider.TheVariants as sliders
-use Rattle.fv_diagram.specs.declared.node.Primitive.{Primitive as Prim}
-use Rattle.fv_diagram.specs.declared.node.Primitive.TheVariants as prim
+use Rattle.fv_parse_grammar.specs.Iteration.{Iteration as Repetition}
+use Rattle.fv_parse_grammar.specs.Iteration.TheVariants as repetitions
+use Rattle.fv_parse_grammar.specs.Side.{Side}
+use Rattle.fv_parse_grammar.specs.Side.TheVariants as sides
+use Rattle.fv_parse_grammar.specs.Switch.{Switch as SwitchKind}
+use Rattle.fv_parse_grammar.specs.Switch.TheVariants as switches
+use Rattle.fv_parse_grammar.specs.Slider.{Slider as SliderKind}
+use Rattle.fv_parse_grammar.specs.Slider.TheVariants as sliders
+use Rattle.fv_diagram.specs.Primitive.{Primitive as Prim}
+use Rattle.fv_diagram.specs.Primitive.TheVariants as prim
 use Rattle.fv_diagram.specs.headline.Diagram.{Diagram, Primitive, Constant, Slot, Bind, Par, Seq, Split, Merge, Rec, inputs, outputs, primitive_inputs}
 use Rattle.fv_diagram.specs.declared.control.ControlInfo.{ControlInfo}
 use Rattle.fv_diagram.specs.declared.control.ControlKind.{ControlKind}
@@ -38,38 +36,7 @@ use Rattle.fv_rules.specs.headline.Steps.{State, Outcome, Eval, ◌>>=◌, give,
 use Rattle.fv_rules.specs.headline.Steps.{no_diagram, visit, fresh_slots, put, waved, whole, control}
 pub use Rattle.fv_diagram_head.specs.headline.Heads.{all_outputs}
 
--- ---- one name for each primitive
-
--- the diagram's primitive of a word or sign (Faust manual)
-abbrev pub primitive_of : Operation → Prim
-primitive_of operations.Mem = prim.Mem
-primitive_of operations.Prefix = prim.Prefix
-primitive_of operations.Int = prim.Int
-primitive_of operations.Attach = prim.Attach
-primitive_of operations.Delay = prim.Delay
-primitive_of operations.Add = prim.Point op.Add
-primitive_of operations.Subtract = prim.Point op.Sub
-primitive_of operations.Multiply = prim.Point op.Mul
-primitive_of operations.Divide = prim.Point op.Div
-primitive_of operations.Remainder = prim.Point op.Rem
-primitive_of operations.And = prim.Point op.And
-primitive_of operations.Or = prim.Point op.Or
-primitive_of operations.Xor = prim.Point op.Xor
-primitive_of operations.ShiftLeft = prim.Point op.Shl
-primitive_of operations.ShiftRight = prim.Point op.Shr
-primitive_of operations.Less = prim.Point op.Lt
-primitive_of operations.LessEqual = prim.Point op.Le
-primitive_of operations.Greater = prim.Point op.Gt
-primitive_of operations.GreaterEqual = prim.Point op.Ge
-primitive_of operations.Equal = prim.Point op.Eq
-primitive_of operations.NotEqual = prim.Point op.Ne
-primitive_of operations.Min = prim.Point op.Min
-primitive_of operations.Max = prim.Point op.Max
-primitive_of operations.Abs = prim.Point op.Abs
-primitive_of operations.Select2 = prim.Point op.Select2
-primitive_of operations.Select3 = prim.Point op.Select3
-primitive_of operations.ReadTable = prim.ReadTable
-primitive_of operations.WriteTable = prim.WriteTable
+-- ---- kinds of controls
 
 -- the kind of a button or checkbox
 abbrev pub switch_kind : SwitchKind → ControlKind
@@ -124,7 +91,7 @@ operated p a b = do
 
 -- two diagrams under an operator: an infix one is the sequence of both side by side and the operation
 abbrev pub joined : Operator → Diagram → Diagram → Eval Diagram
-joined (operators.Infix p) a b = operated (primitive_of p) a b
+joined (operators.Infix p) a b = operated p a b
 joined operators.Recursion a b = put (Rec a b)
 joined operators.Parallel a b = put (Par a b)
 joined operators.Sequence a b = put (Seq a b)
@@ -300,9 +267,7 @@ waveform l s (x ∷ xs) = flat (waved (map literal_value (x ∷ xs)))
 abbrev pub rule : Lexed → Evaluator → Tree → Env → Eval Value
 rule l e (tree.Number s n) env = give (Flat (Constant (wrap (pos n))))
 rule l e (tree.Negative s n) env = give (Flat (Constant (wrap (neg_ℤ (pos n)))))
-rule l e (tree.Wire s) env = give (Flat (Primitive prim.Wire))
-rule l e (tree.Cut s) env = give (Flat (Primitive prim.Cut))
-rule l e (tree.Primitive s p) env = give (Flat (Primitive (primitive_of p)))
+rule l e (tree.Primitive s p) env = give (Flat (Primitive p))
 rule l e (tree.Named s n) env = meant e (text_of l n) (lookup l env (text_of l n))
 rule l e (tree.MinusNamed s n) env = do
   v ← name_value l e (text_of l n) env
@@ -365,13 +330,9 @@ ev l = record {
 
 -- ---- programs
 
--- no program has more visits
-abbrev pub visit_limit : ℕ
-visit_limit = VISIT_LIMIT
-
 -- the state before a program
 abbrev pub start : State
-start = record { visits = visit_limit; controls = []; slot = 0; tables = 0 }
+start = record { visits = VISIT_LIMIT; controls = []; slot = 0; tables = 0 }
 
 -- what a whole program's value is made of: its diagram and its controls
 abbrev pub finished : Outcome Diagram → Result (Diagram × List ControlInfo) EvalRefusal

@@ -7,12 +7,11 @@ use Rattle.fv_base.specs.declared.limits.TheConstants.{TABLE_LIMIT}
 use Rattle.fv_lex.specs.headline.Token.{Lexed}
 use Rattle.fv_arity.specs.declared.refusal.ArityKind.TheVariants as kind
 use Rattle.fv_diagram.specs.Words.{argument}
-use Rattle.fv_diagram.specs.declared.node.Primitive.TheVariants as prim
+use Rattle.fv_diagram.specs.Primitive.TheVariants as prim
 use Rattle.fv_diagram.specs.headline.Diagram.{Diagram, Primitive, Control, Wave, Table, Par, Seq, Split, Merge, Rec, size, inputs, outputs, has_table_primitive}
 use Rattle.fv_diagram_head.specs.Numbers.{at_first}
 use Rattle.fv_diagram_head.specs.headline.Heads.{parts, cut, is_head, table_numbers}
 use Rattle.fv_rules.specs.declared.refusal.TableCause.TheVariants as cause
-use Rattle.fv_diagram.specs.headline.Arena.{size_limit}
 use Rattle.fv_diagram.specs.declared.control.ControlInfo.{ControlInfo}
 use Rattle.fv_diagram.specs.declared.control.ControlKind.{ControlKind}
 use Rattle.fv_diagram.specs.declared.control.ControlKind.TheVariants.{Button, Checkbox, HSlider, VSlider, NEntry}
@@ -20,6 +19,7 @@ use Rattle.fv_rules.specs.declared.refusal.EvalRefusal.{EvalRefusal}
 use Rattle.fv_rules.specs.declared.refusal.EvalRefusal.TheVariants.{SizeBudget, Arity, NotANumber, NoRule, NotADiagram, EvalBudget}
 use Rattle.fv_rules.specs.declared.refusal.EvalRefusal.TheVariants.{ControlClash, ControlBounds, TableForm, TableBudget}
 use Rattle.fv_parse.specs.headline.Trees.{place_from}
+use Rattle.fv_base.specs.declared.limits.TheConstants.{SIZE_LIMIT}
 
 -- the visits that are left, the controls so far, the next slot, and the table sum
 pub record State : Type 0 where
@@ -107,7 +107,7 @@ misfit d = None
 
 -- a diagram that is not too large
 abbrev pub sized : Diagram → Eval Diagram
-sized d = if nat_le (size d) size_limit then give d else refuse (SizeBudget (size d))
+sized d = if nat_le (size d) SIZE_LIMIT then give d else refuse (SizeBudget (size d))
 
 -- a diagram is put unless it was refused or is too large
 abbrev pub put_after : Option EvalRefusal → Diagram → Eval Diagram
@@ -115,10 +115,6 @@ put_after (Some r) d = refuse r
 put_after None d = sized d
 
 -- ---- tables (Faust manual, rdtable and rwtable; this project's profile)
-
--- no table sum is greater
-abbrev pub table_limit : ℕ
-table_limit = TABLE_LIMIT
 
 -- side by side, put from the right; a parallel composition always fits
 abbrev pub side_by_side : Diagram → List Diagram → Eval Diagram
@@ -133,7 +129,7 @@ table_size (negsuc n) = refuse (TableForm cause.Size)
 
 -- the table sum grows by so much
 abbrev pub grown : ℕ → State → Outcome Unit
-grown n s = if nat_le (s.tables + n) table_limit then Ok (tt, record s { tables = s.tables + n }) else Err (TableBudget (s.tables + n))
+grown n s = if nat_le (s.tables + n) TABLE_LIMIT then Ok (tt, record s { tables = s.tables + n }) else Err (TableBudget (s.tables + n))
 
 -- the same, as an evaluation
 abbrev pub grow : ℕ → Eval Unit

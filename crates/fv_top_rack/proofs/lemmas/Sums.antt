@@ -17,7 +17,6 @@ use Rattle.fv_interval.specs.Delays.{AreDelays, IsDelay}
 use Rattle.fv_jobs_controls.specs.headline.Labels.{controls_from, labelled, renamed}
 use Rattle.fv_join_diagrams.specs.headline.Parts.{Part, side_by_side}
 use Rattle.fv_join_diagrams.specs.Parts.{PartsAreWhole, spans_of as spans_of_parts}
-use Rattle.fv_rules.specs.headline.Rules.{visit_limit}
 use Rattle.fv_top_text.specs.headline.Compiled.{Compiled}
 use Rattle.fv_top_text.specs.Compiled.{CanPlay, compiled_of}
 use Rattle.fv_top_text.specs.headline.Program.{delays_in}
@@ -25,6 +24,7 @@ use Rattle.fv_top_rack.specs.headline.Racks.{part_of, rack_of}
 use Rattle.fv_top_rack.specs.Reads.{IsRead, programs_in}
 use Rattle.fv_top_rack.specs.declared.programs.Read.{Read}
 use Rattle.fv_top_rack.proofs.Delays.{HaveOwn, delays_beside}
+use Rattle.fv_base.specs.declared.limits.TheConstants.{VISIT_LIMIT}
 
 -- ---- sums over items that are seen otherwise
 
@@ -132,9 +132,9 @@ module _ (rs : List Read) (h : All IsRead rs) where
     rack_plays few some most narrow =
         let w = whole 0 (map part_of ps) in
         let long : length rack.controls ≡ sum_by (λ (p : Compiled). length p.controls) ps = long_controls 0 ps in
-        let own_controls : sum_by (λ (p : Compiled). length p.controls) ps ≤ length ps * visit_limit =
-        sum_by-le (λ (p : Compiled). length p.controls) visit_limit ps
-        (All-map (λ (p : Compiled). length p.controls ≤ visit_limit) (λ (r : Read). compiled_of r.program) rs (λ k d l. let r = h k d l in r.controls)) in
+        let own_controls : sum_by (λ (p : Compiled). length p.controls) ps ≤ length ps * VISIT_LIMIT =
+        sum_by-le (λ (p : Compiled). length p.controls) VISIT_LIMIT ps
+        (All-map (λ (p : Compiled). length p.controls ≤ VISIT_LIMIT) (λ (r : Read). compiled_of r.program) rs (λ k d l. let r = h k d l in r.controls)) in
         let count : length ps ≡ length rs = length-map rs (λ (r : Read). compiled_of r.program) in
         let spans : sum_by (λ (p : Part). length p.spans) (map part_of ps) ≡ sum_by (λ (p : Compiled). length (spans_of p.controls)) ps =
         sum_by_map (λ (p : Part). length p.spans) part_of ps in

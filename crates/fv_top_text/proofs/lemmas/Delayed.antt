@@ -6,7 +6,6 @@ use Rattle.std.proofs.lemmas.Int.{ints}
 use Rattle.fv_interval.specs.Interval.{Interval}
 use Rattle.fv_interval.specs.declared.refusal.DelayRefusal.{DelayRefusal}
 use Rattle.fv_interval.specs.declared.refusal.DelayRefusal.TheVariants as delay
-use Rattle.fv_interval.specs.headline.Delays.{delay_limit, delay_budget}
 use Rattle.fv_interval.specs.Delays.{IsDelay, AreDelays, AreAccepted, IsSpanRefused, IsFirstRefused, IsDelayRefusal}
 use Rattle.fv_top_report.specs.declared.refusal.Refusal.{Refusal}
 use Rattle.fv_top_report.specs.declared.refusal.Refusal.TheVariants as no
@@ -14,6 +13,7 @@ use Rattle.fv_top_text.specs.headline.Compiled.{Compiled}
 use Rattle.fv_top_text.specs.headline.Program.{bad_delay, first_bad, delayed, delays_in, delay_in}
 use Rattle.fv_top_text.specs.Program.{IsOfText}
 use Rattle.fv_top_report.specs.Layers.{of_delay}
+use Rattle.fv_base.specs.declared.limits.TheConstants.{DELAY_BUDGET, DELAY_LIMIT}
 
 -- ---- tests of whole numbers
 
@@ -36,7 +36,7 @@ int_yes a b h = by (int_lt a b) refl
 good_first : (s : Interval) (behind : Option Refusal) → IsDelay s → bad_delay s behind ≡ behind
 good_first s behind d =
     let lo = int_no s.lo (pos 0) d.natural in
-    let hi = int_no (pos delay_limit) s.hi d.short in
+    let hi = int_no (pos DELAY_LIMIT) s.hi d.short in
     rw (lo, hi) refl
 
 pub none_bad : (ss : List Interval) → AreDelays ss → first_bad ss ≡ None
@@ -59,8 +59,8 @@ pub delays_pass : (p : Compiled) (ds : List ℕ) → AreAccepted (delays_in p) d
 delays_pass p ds a =
     let none = none_bad (delays_in p) a.each in
     let same : sum ds ≡ delay_in p = ap sum a.are in
-    let within : delay_in p ≤ delay_budget = let h = a.within in omega arith in
-    let test = le-leb (delay_in p) delay_budget within in
+    let within : delay_in p ≤ DELAY_BUDGET = let h = a.within in omega arith in
+    let test = le-leb (delay_in p) DELAY_BUDGET within in
     rw (none, test) refl
 
 -- the refusals of delays are of a text, but want of memory
@@ -78,12 +78,12 @@ delays_stop p (delay.DelayTooLong n) r is h =
       ap (delayed p) (first_refused (delays_in p) (delay.DelayTooLong n) (no.DelayTooLong n)
           (λ s k rest.
           let t = int_no s.lo (pos 0) k.1 in
-          let u = int_yes (pos delay_limit) s.hi k.2 in
+          let u = int_yes (pos DELAY_LIMIT) s.hi k.2 in
           rw (t, u) (ap (λ z. Some (no.DelayTooLong z)) (sym k.0))) h),
     ))
 delays_stop p (delay.DelayBudget n) r is h =
     let none = none_bad (delays_in p) h.0 in
-    let over : delay_budget < delay_in p = let e = h.1 in let l = h.2 in omega arith in
-    let test = lt-leb (delay_in p) delay_budget over in
+    let over : DELAY_BUDGET < delay_in p = let e = h.1 in let l = h.2 in omega arith in
+    let test = lt-leb (delay_in p) DELAY_BUDGET over in
     rw is (inr (refl, rw (none, test) (ap (λ m. Err (no.DelayBudget m)) (sym h.1))))
 delays_stop p delay.NoMemory r is h = inl is

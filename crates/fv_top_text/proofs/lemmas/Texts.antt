@@ -6,7 +6,7 @@ use Rattle.fv_lex.specs.declared.refusal.LexRefusal.{LexRefusal}
 use Rattle.fv_base.specs.declared.role.Role.TheVariants.{Program}
 use Rattle.fv_lex.specs.declared.refusal.LexRefusal.TheVariants.{TextTooLong}
 use Rattle.fv_lex.specs.headline.Token.{Lexed}
-use Rattle.fv_lex.specs.headline.Cuts.{Has, too_long, cut, longest_text}
+use Rattle.fv_lex.specs.headline.Cuts.{Has, too_long, cut}
 use Rattle.fv_top_report.specs.declared.refusal.Refusal.{Refusal}
 use Rattle.fv_top_text.specs.headline.Answers.{Then, Turned, kept, turned, stops, goes_on}
 use Rattle.fv_top_text.specs.headline.Compiled.{Compiled}
@@ -14,15 +14,16 @@ use Rattle.fv_top_text.specs.headline.Program.{Parses, TextIs}
 use Rattle.fv_top_text.specs.inner.Layers.{Evaluates, Narrow, Delayed, SpellingIs, ValueIs, WidthIs}
 use Rattle.fv_top_report.specs.headline.Layers.{of_bytes, of_tokens, of_value}
 use Rattle.fv_top_text.proofs.lemmas.AnswerLaws.{kept_is}
+use Rattle.fv_base.specs.declared.limits.TheConstants.{LONGEST_TEXT}
 
 -- what a text has says whether it is too long
 too_long_or_not : (text : List ℕ) (answer : Result Lexed LexRefusal) → Has text answer
-    → ((answer ≡ Err (TextTooLong Program)) × (longest_text < length text)) ⊎ (length text ≤ longest_text)
+    → ((answer ≡ Err (TextTooLong Program)) × (LONGEST_TEXT < length text)) ⊎ (length text ≤ LONGEST_TEXT)
 too_long_or_not text answer (too_long h) = inl (refl, h)
 too_long_or_not text answer (cut h c f) = inr h
 
 whole_by : (text bytes : List ℕ) (answer : Result Lexed LexRefusal) → bytes ≡ take 1048577 text → Has bytes answer →
-    ((answer ≡ Err (TextTooLong Program)) × (longest_text < length bytes)) ⊎ (length bytes ≤ longest_text) → Has text answer
+    ((answer ≡ Err (TextTooLong Program)) × (LONGEST_TEXT < length bytes)) ⊎ (length bytes ≤ LONGEST_TEXT) → Has text answer
 whole_by text bytes answer e has (inl h) = let long = h.1 in subst (Has text) (sym h.0) (too_long (omega (arith, ap length e ∙ length-take 1048577 text)))
 whole_by text bytes answer e has (inr h) =
     let within : length text ≤ 1048577 = omega (arith, ap length e ∙ length-take 1048577 text) in
@@ -68,8 +69,8 @@ program_cut text p h =
     (tokens.0, kept_is of_bytes Has text tokens.0 tokens.1)
 
 fits : (text : List ℕ) (l : Lexed) (answer : Result Lexed LexRefusal) → answer ≡ Ok l
-    → ((answer ≡ Err (TextTooLong Program)) × (longest_text < length text)) ⊎ (length text ≤ longest_text) →
-    length text ≤ longest_text
+    → ((answer ≡ Err (TextTooLong Program)) × (LONGEST_TEXT < length text)) ⊎ (length text ≤ LONGEST_TEXT) →
+    length text ≤ LONGEST_TEXT
 fits text l answer e (inl h) = let f = h.0 in absurd cc
 fits text l answer e (inr h) = h
 

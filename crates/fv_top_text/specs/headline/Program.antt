@@ -13,13 +13,14 @@ use Rattle.fv_interval.specs.Diagram.{Diagram, inputs, outputs}
 use Rattle.fv_interval.specs.ControlInfo.{ControlInfo}
 use Rattle.fv_eval.specs.EvalRefusal.{EvalRefusal}
 use Rattle.fv_eval.specs.Rules.{program_value}
-use Rattle.fv_interval.specs.headline.Delays.{delays_of, amounts, delay_limit, delay_budget}
+use Rattle.fv_interval.specs.headline.Delays.{delays_of, amounts}
 use Rattle.fv_interval.specs.headline.Controls.{spans_of}
 use Rattle.fv_top_report.specs.headline.Layers.{of_bytes, of_tokens, of_value}
 use Rattle.fv_top_text.specs.headline.Answers.{Then, Turned, Gives}
 use Rattle.fv_top_text.specs.headline.Compiled.{Compiled}
 use Rattle.fv_top_report.specs.declared.refusal.Refusal.{Refusal}
 use Rattle.fv_top_report.specs.declared.refusal.Refusal.TheVariants as no
+use Rattle.fv_base.specs.declared.limits.TheConstants.{DELAY_BUDGET, DELAY_LIMIT}
 
 -- the numbers of the refusals of a program: 4 to 29, and 41 to 43
 abbrev pub is_of_program : ℕ → Bool
@@ -70,7 +71,7 @@ delay_in p = sum (amounts (delays_in p))
 abbrev pub bad_delay : Interval → Option Refusal → Option Refusal
 bad_delay s behind =
     if int_lt s.lo (pos 0) then Some (no.DelayNegative s.lo)
-    else (if int_lt (pos delay_limit) s.hi then Some (no.DelayTooLong s.hi) else behind)
+    else (if int_lt (pos DELAY_LIMIT) s.hi then Some (no.DelayTooLong s.hi) else behind)
 
 -- the first of the spans that is refused
 abbrev pub first_bad : List Interval → Option Refusal
@@ -80,7 +81,7 @@ first_bad (s ∷ ss) = bad_delay s (first_bad ss)
 -- and where none is, their sum may be
 abbrev pub delayed : Compiled → Option Refusal → Result Compiled Refusal
 delayed p (Some refusal) = Err refusal
-delayed p None = if nat_le (delay_in p) delay_budget then Ok p else Err (no.DelayBudget (delay_in p))
+delayed p None = if nat_le (delay_in p) DELAY_BUDGET then Ok p else Err (no.DelayBudget (delay_in p))
 
 -- a program whose delays are not refused
 abbrev pub checked : Compiled → Result Compiled Refusal

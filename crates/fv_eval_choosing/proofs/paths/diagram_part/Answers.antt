@@ -1,3 +1,5 @@
+use Rattle.std.proofs.Common.{arith}
+use Rattle.std.proofs.lemmas.Grind.{common_steps}
 use Rattle.std.proofs.Common.{◌≡◌, ◌∙◌, suc, drop, get_or, None, option_map, ap, sym, drop-cons}
 use Rattle.fv_diagram.specs.Arena.{tree_of}
 use Rattle.fv_rules.specs.Numbers.{number_of}
@@ -16,3 +18,6 @@ returns-in_default-clause-part c =
     let none : both_without (number_of d) d ≡ None = sym c.in_ok-both.ensures.parts ∙ ap (option_map (are_parts a)) c.in_default.is in
     sym (no_diagram_part (drop i sides) (drop (suc i) sides) (get_or sides i Left) d (drop-cons sides i Left c.loop-side-test.true) none)
     ∙ c.loop-side.invariant.part
+
+pub loop-side-preserved : goal.loop-side-preserved
+loop-side-preserved c = grind (arith, common_steps)

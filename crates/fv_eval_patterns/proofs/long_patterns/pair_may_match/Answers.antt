@@ -1,3 +1,6 @@
+use Rattle.std.proofs.Common.{rules}
+use Rattle.std.proofs.Common.{arith}
+use Rattle.std.proofs.lemmas.Grind.{common_steps}
 use Rattle.std.proofs.Common.{Some, reverse, ◌∙◌, sym, ap, subst}
 use Rattle.fv_eval_patterns.specs.declared.long_patterns.Task.TheVariants.{Try}
 use Rattle.fv_eval_patterns.specs.Trials.{AllMiss}
@@ -59,3 +62,9 @@ loop-task-preserved c =
     c.in_ok-attempt-in-Try.ensures.splits in
     attempts_go_on c.attempt.new.numbers c.attempt.new.tasks.items c.loop-task.invariant
     (task_taken {t = Try x} c.pop.new.self.items c.pop.ensures.items (c.in-Some.is ∙ ap (λ t. Some t) c.in-Try.is)) c.in_ok-attempt-in-Try.ensures.known split
+
+pub loop-task-preserved-in_ok-remember-in-Note : goal.loop-task-preserved-in_ok-remember-in-Note
+loop-task-preserved-in_ok-remember-in-Note c = grind (arith, common_steps)
+
+pub returns-in_err-remember-in-Note-clause-recalls : goal.returns-in_err-remember-in-Note-clause-recalls
+returns-in_err-remember-in-Note-clause-recalls c = search rules

@@ -1,7 +1,7 @@
 use Rattle.std.proofs.Common.{◌≡◌, ◌⊎◌, List, Ok, Err, ◌∙◌, ap, subst}
 use Rattle.std.proofs.lemmas.Result.{err_from_is_err_and}
 use Rattle.fv_interval.specs.Interval.{Interval}
-use Rattle.fv_interval.specs.ArenaBeside.{tree_of}
+use Rattle.fv_interval.specs.Arena.{tree_of}
 use Rattle.fv_interval.specs.headline.Delays.{delays_of}
 use Rattle.fv_interval.specs.Delays.{AreAccepted, IsDelayRefusal}
 use Rattle.fv_eval.specs.Evaluated.{Evaluated}

@@ -30,3 +30,6 @@ pub unreachable-requires : goal.unreachable-requires
 unreachable-requires c =
     is_no_other_iteration c.args.text.now c.tree-tree.result.now c.args.iteration c.node.result.now _ c.tree-tree.ensures c.node.ensures.tree
     c.requires.form c.in_default.not-Iteration
+
+pub returns-then-n-lt1 : goal.returns-then-n-lt1
+returns-then-n-lt1 c = search rules

@@ -1,3 +1,4 @@
+use Rattle.std.proofs.Common.{rules}
 use Rattle.fv_eval.proofs.Moves.{drawn_grew}
 use Rattle.fv_eval.proofs.machine.Machine.settle.Goals as goal
 
@@ -6,3 +7,6 @@ returns-in_err-settled-clause-grew c = λ p. drawn_grew p c.args.self.now c.sett
 
 pub returns-clause-grew : goal.returns-clause-grew
 returns-clause-grew c = λ p. drawn_grew p c.args.self.now c.settle.new.self c.in_ok-settled.ensures.adds
+
+pub returns-clause-shows : goal.returns-clause-shows
+returns-clause-shows c = search rules

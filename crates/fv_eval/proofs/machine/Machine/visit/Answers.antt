@@ -1,3 +1,4 @@
+use Rattle.std.proofs.Common.{rules}
 use Rattle.std.proofs.Common.{◌≡◌, ◌<◌, [], Ok, Err, refl, sym, ap, subst, ◌∙◌, arith}
 use Rattle.fv_parse_grammar.specs.headline.Tree as tree
 use Rattle.fv_parse.specs.TreeNode.{TreeNode}
@@ -65,3 +66,9 @@ returns-in-List c =
     subst (λ (x : Parsed). Begins x m m (Err r) e (tree_in x id)) c.tree-tree.ensures
     (list_begins q m m id e c.in-List.field-0.items r
     (c.node.ensures.tree ∙ ap (λ (n : TreeNode). node_tree q n (start_in q id)) c.in-List.is) c.not_a_diagram-in-List.ensures)
+
+pub returns-in-Binary : goal.returns-in-Binary
+returns-in-Binary c = search rules
+
+pub returns-in-Where : goal.returns-in-Where
+returns-in-Where c = search rules

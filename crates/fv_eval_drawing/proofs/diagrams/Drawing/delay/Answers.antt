@@ -1,5 +1,5 @@
 use Rattle.std.proofs.Common.{ap₂}
-use Rattle.fv_diagram.specs.declared.node.Primitive.TheVariants as prim
+use Rattle.fv_diagram.specs.Primitive.TheVariants as prim
 use Rattle.fv_diagram.specs.headline.Diagram.{Diagram, Seq, Primitive}
 use Rattle.fv_diagram.specs.Arena.{tree_of}
 use Rattle.fv_rules.specs.headline.Steps.{put}

@@ -1,5 +1,5 @@
 use Rattle.std.proofs.Common.{sym, subst}
-use Rattle.fv_parse_grammar.specs.declared.form.Iteration.{Iteration as Repetition}
+use Rattle.fv_parse_grammar.specs.Iteration.{Iteration as Repetition}
 use Rattle.fv_num.specs.declared.op.Op.TheVariants as op
 use Rattle.fv_rules.specs.headline.Rules.{gathered}
 use Rattle.fv_eval_drawing.specs.Makes.{Makes, MakesValue, trees_of}

@@ -1,8 +1,7 @@
 use Rattle.std.proofs.Common.{sym, subst}
 use Rattle.fv_parse_grammar.specs.declared.form.Operator.{Operator}
-use Rattle.fv_diagram.specs.declared.node.Primitive.{Primitive}
 use Rattle.fv_diagram.specs.Arena.{tree_of}
-use Rattle.fv_rules.specs.headline.Rules.{joined, operated}
+use Rattle.fv_rules.specs.headline.Rules.{joined}
 use Rattle.fv_eval_drawing.specs.Makes.{Makes}
 use Rattle.fv_eval_drawing.proofs.diagrams.Drawing.join.Goals as goal
 
@@ -45,4 +44,4 @@ returns-in-Infix-clause-makes c =
     let a = tree_of c.args.self.now.diagrams c.args.left in
     let b = tree_of c.args.self.now.diagrams c.args.right in
     subst (λ (o : Operator). Makes c.args.self.now c.operate.new.self (joined o a b) c.operate.result) (sym c.in-Infix.is)
-    (subst (λ (p : Primitive). Makes c.args.self.now c.operate.new.self (operated p a b) c.operate.result) c.primitive_of.ensures c.operate.ensures.makes)
+    c.operate.ensures.makes

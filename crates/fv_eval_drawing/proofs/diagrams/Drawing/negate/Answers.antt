@@ -1,6 +1,6 @@
 use Rattle.std.proofs.Common.{ap₂, pos}
 use Rattle.fv_num.specs.declared.op.Op.TheVariants as op
-use Rattle.fv_diagram.specs.declared.node.Primitive.TheVariants as prim
+use Rattle.fv_diagram.specs.Primitive.TheVariants as prim
 use Rattle.fv_diagram.specs.headline.Diagram.{Diagram, Constant}
 use Rattle.fv_diagram.specs.Arena.{tree_of}
 use Rattle.fv_rules.specs.headline.Rules.{operated}

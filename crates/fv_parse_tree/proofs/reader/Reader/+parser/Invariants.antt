@@ -42,11 +42,11 @@ decreases-applied l = l.nesting * 64 + 2
 abbrev pub decreases-with_part : goal.decreases-with_part
 decreases-with_part l = l.nesting * 64 + 2
 
-abbrev pub decreases-by_head : goal.decreases-by_head
-decreases-by_head l = l.nesting * 64 + 3
+abbrev pub decreases-by_first : goal.decreases-by_first
+decreases-by_first l = l.nesting * 64 + 3
 
-abbrev pub decreases-atom_by_head : goal.decreases-atom_by_head
-decreases-atom_by_head l = l.nesting * 64 + 3
+abbrev pub decreases-atom_by_first : goal.decreases-atom_by_first
+decreases-atom_by_first l = l.nesting * 64 + 3
 
 abbrev pub decreases-next_postfix : goal.decreases-next_postfix
 decreases-next_postfix l = l.nesting * 64 + 3
