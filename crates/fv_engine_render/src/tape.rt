@@ -77,12 +77,12 @@ pub fn make_ready_graph(
     requires sizes { CanHave sizes.now }
     ensures { IfOk result (λ r. (d : Diagram) → CanBePlayed d graph.now inputs controls.now → IsSetFor d controls.now sizes.now r) }
 {
-    let plan = plan_of(alloc, graph, inputs, controls.len())?;
-    let loops = plan.loops();
-    let engine = engine(alloc, plan, inputs, sizes)?;
     let values = initial_of(alloc, controls)?;
     let heard = blank_samples(alloc, sizes.block, inputs as usize)?;
     let said = blank_samples(alloc, sizes.block, graph.outputs().len())?;
+    let plan = plan_of(alloc, graph, inputs, controls.len())?;
+    let loops = plan.loops();
+    let engine = engine(alloc, plan, inputs, sizes)?;
     Ok(Ready {
         engine,
         loops,

@@ -6,16 +6,13 @@ use Rattle.fv_parse_grammar.specs.headline.Tree.{Tree}
 use Rattle.fv_parse.specs.headline.Trees.{text_of}
 use Rattle.fv_parse.specs.Trees.{Parsed, program_of, size_of, first_named}
 use Rattle.fv_diagram.specs.headline.Diagram.{Diagram, has_table_primitive}
-use Rattle.fv_diagram.specs.Arena.{Arena, count_of, empty_arena, tree_of}
-use Rattle.fv_eval_patterns.specs.Remembered.{nothing}
+use Rattle.fv_diagram.specs.Arena.{Arena, count_of, tree_of}
 use Rattle.fv_eval_patterns.specs.Trials.{Recalls}
 use Rattle.fv_eval_patterns.proofs.lemmas.LongPatterns.{recalls_nothing}
-use Rattle.fv_eval_choosing.specs.Shortcuts.{AreShortcuts}
 use Rattle.fv_rules.specs.declared.refusal.EvalRefusal.{EvalRefusal}
 use Rattle.fv_rules.specs.declared.refusal.EvalRefusal.TheVariants.{NoMemory}
 use Rattle.fv_eval_scopes.specs.declared.value.Value as code_value
 use Rattle.fv_eval_scopes.specs.declared.value.Value.TheVariants as value
-use Rattle.fv_eval_scopes.specs.declared.value.Scope.{Scope as Enclosing}
 use Rattle.fv_eval_scopes.specs.declared.value.Scope.TheVariants as scope
 use Rattle.fv_eval_scopes.specs.Environments.{Environments, scope_in, with_scope}
 use Rattle.fv_rules.specs.headline.Values.{Value, Flat, Outermost, Scope}
@@ -33,7 +30,7 @@ use Rattle.fv_eval.specs.declared.continuation.ForDiagram.TheVariants as drawn
 use Rattle.fv_eval.specs.declared.continuation.Focus as code_focus
 use Rattle.fv_eval.specs.declared.continuation.Focus.TheVariants as focus
 use Rattle.fv_eval.specs.declared.machine.Machine as code_machine
-use Rattle.fv_eval.specs.inner.Continuations.{world, state_of, Goes, Continues, Ends, Runs}
+use Rattle.fv_eval.specs.inner.Continuations.{world, state_of, Goes, Continues, Ends, IsNew, Runs}
 
 -- what `process` is, as a diagram
 abbrev pub of_process : Lexed → Tree → Eval Diagram
@@ -133,8 +130,7 @@ goes_on p m n f r o mean goes h = (step p.tokens h.0, goes h.0 h.1, mean p.token
 
 -- a new machine to which its first environment and its first continuation were added
 pub starts : (p : Parsed) (m : code_machine.Machine) (s : Environments) (fs : List code_continuation.Continuation) (root name env : ℕ)
-    → (m.drawing.diagrams ≡ empty_arena) × (m.scopes ≡ record { scopes = []; taken = [] }) × (m.continuations ≡ []) × (state_of m ≡ start)
-    × (m.trials ≡ nothing) × ((q : Parsed) (scopes : List Enclosing) → AreShortcuts q scopes m.shortcuts)
+    → IsNew m start
     → (env ≡ length m.scopes.scopes + 1) × (s ≡ with_scope m.scopes (scope.Definitions root 0))
     → fs ≡ m.continuations ++ continuation.Drawn drawn.Finish ∷ [] → root ≡ p.root
     → root < size_of p → (text_of p.tokens name ≡ codes "process") × (first_named p.tokens name ≡ name)

@@ -10,7 +10,7 @@ use std::alloc::{AllocError, Global};
 use std::marker::Model;
 
 /// What waits for a value.
-#[derive(Debug, Drop)]
+#[derive(Drop)]
 pub enum ForValue {
     /// An application, whose function comes next, and the environment of its arguments.
     Function {
@@ -39,7 +39,7 @@ pub enum ForValue {
 }
 
 /// What waits for a diagram.
-#[derive(Debug, Drop)]
+#[derive(Drop)]
 pub enum ForDiagram {
     /// A node of two parts, whose left one comes.
     Left {
@@ -85,14 +85,14 @@ pub enum ForDiagram {
 }
 
 /// What waits.
-#[derive(Debug, Drop)]
+#[derive(Drop)]
 pub enum Continuation {
     Valued(ForValue),
     Drawn(ForDiagram),
 }
 
 /// What is done next. An environment is a number of `Scopes`, a name a canonical number.
-#[derive(Clone, Copy, Debug)]
+#[derive(Clone, Copy)]
 pub enum Focus {
     Visit { id: TreeId, env: u64 },
     Call { name: u64, env: u64 },

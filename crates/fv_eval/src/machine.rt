@@ -1,17 +1,13 @@
 // The machine: its lists, and one step.
 
-ghost use Rattle.std.specs.Prelude.{ℕ, ◌≡◌, ◌<◌, ◌-◌, List, [], ◌∷◌, MatchBool};
+ghost use Rattle.std.specs.Prelude.{◌≡◌, ◌<◌, ◌-◌, [], ◌∷◌, MatchBool};
 ghost use Rattle.fv_parse_grammar.specs.headline.Tree.{Tree};
 ghost use Rattle.fv_parse.specs.Trees.{Parsed};
-ghost use Rattle.fv_diagram.specs.Arena.{empty_arena};
 ghost use Rattle.fv_rules.specs.headline.Values.{Env, Name, Scope, Value as Meant};
 ghost use Rattle.fv_rules.specs.headline.Steps.{Outcome};
-ghost use Rattle.fv_eval_scopes.specs.declared.value.Scope.{Scope as AScope};
 ghost use Rattle.fv_eval_scopes.specs.Shows.{IsNamed, ShowsEnv, ShowsTree};
-ghost use Rattle.fv_eval_choosing.specs.Shortcuts.{AreShortcuts};
-ghost use Rattle.fv_eval_patterns.specs.Remembered.{nothing};
 ghost use Rattle.fv_eval_machine.specs.Machine.{Call, Config, Continuation as Waiting, Running, Visit, step};
-ghost use Rattle.fv_eval.specs.inner.Continuations.{Continues, Ends, Goes, Runs, ShowsContinuation, Steps, state_of, world};
+ghost use Rattle.fv_eval.specs.inner.Continuations.{Continues, Ends, Goes, IsNew, Runs, ShowsContinuation, Steps, world};
 
 use crate::continuation::{Continuation, Continuations, Focus};
 use fv_eval_choosing::{Definitions, Shortcuts};
@@ -45,9 +41,7 @@ pub struct Machine {
 impl Machine {
     /// A machine with so many visits, in which nothing waits.
     pub fn new(alloc: Global, visits: u32) -> Machine
-        ensures { (result.drawing.diagrams ≡ empty_arena) × (result.scopes ≡ record { scopes = []; taken = [] })
-            × (result.continuations ≡ []) × (state_of result ≡ record { visits = visits; controls = []; slot = 0; tables = 0 })
-            × (result.trials ≡ nothing) × ((p : Parsed) (scopes : List AScope) → AreShortcuts p scopes result.shortcuts) }
+        ensures { IsNew result (record { visits = visits; controls = []; slot = 0; tables = 0 }) }
     {
         Machine {
             alloc,

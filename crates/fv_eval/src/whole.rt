@@ -14,7 +14,7 @@ ghost use Rattle.fv_rules.specs.headline.Values.{is_of};
 ghost use Rattle.fv_rules.specs.headline.Rules.{program_value, start};
 ghost use Rattle.fv_rules.specs.Runnable.{IsRunnable};
 ghost use Rattle.fv_eval_machine.specs.Machine.{first, meaning};
-ghost use Rattle.fv_eval.specs.inner.Continuations.{Continues};
+ghost use Rattle.fv_eval.specs.inner.Continuations.{Continues, IsNew};
 ghost use Rattle.fv_eval.specs.inner.Names.{defined_by};
 
 use crate::continuation::{Continuation, Focus, ForDiagram};
@@ -93,17 +93,34 @@ fn process_name(tree: &Tree) -> Option<u64>
     None
 }
 
+// The machine opens the outermost definitions and calls `process` among them, whose diagram it then wants.
+fn call_process(machine: &mut Machine, tree: &Tree, name: u64) -> Result<Focus, AllocError>
+    requires new { IsNew machine.old start }
+    requires named { (text_of tree.now.tokens name ≡ codes "process") × (first_named tree.now.tokens name ≡ name) }
+    ensures { IfOk result (λ f. Continues tree.now.tokens tree.now machine.new (Ok f) (meaning tree.now.tokens (first (program_of tree.now) start))) }
+{
+    let env = machine.scopes.open(tree.root(), 0)?;
+    machine
+        .continuations
+        .push(Continuation::Drawn(ForDiagram::Finish))?;
+    Ok(Focus::Call { name, env })
+}
+
 // A machine that calls `process` among the outermost definitions, and then wants its diagram.
 fn started(alloc: Global, tree: &Tree, name: u64) -> Result<(Machine, Focus), AllocError>
     requires { (text_of tree.now.tokens name ≡ codes "process") × (first_named tree.now.tokens name ≡ name) }
     ensures { IfOk result (λ x. Continues tree.now.tokens tree.now x.0 (Ok x.1) (meaning tree.now.tokens (first (program_of tree.now) start))) }
 {
     let mut machine = Machine::new(alloc, VISIT_LIMIT);
-    let env = machine.scopes.open(tree.root(), 0)?;
-    machine
-        .continuations
-        .push(Continuation::Drawn(ForDiagram::Finish))?;
-    Ok((machine, Focus::Call { name, env }))
+    let first = call_process(&mut machine, tree, name)?;
+    Ok((machine, first))
+}
+
+// What a machine has drawn, and the controls that it met.
+fn drawn(machine: Machine) -> (Diagrams, Controls)
+    ensures { (result.0 ≡ machine.drawing.diagrams) × (result.1 ≡ machine.controls) }
+{
+    (machine.drawing.finish(), machine.controls)
 }
 
 // The program of a machine that is done, in which no table primitive is left.
@@ -127,14 +144,36 @@ fn finished(machine: Machine, value: Value) -> Result<Program, EvalRefusal>
             cause: TableCause::Primitive,
         });
     }
-    let diagrams = machine.drawing.finish();
+    let (diagrams, controls) = drawn(machine);
     // The arena says here that every number in the diagram has 32 bits.
     let _arity = diagrams.arity(root);
     Ok(Program {
         diagrams,
         root,
-        controls: machine.controls,
+        controls,
     })
+}
+
+// The program of the `process` that has this name.
+fn evaluated(
+    alloc: Global,
+    tree: &Tree,
+    text: &Definitions,
+    name: u64,
+) -> Result<Program, EvalRefusal>
+    requires text { text.now ≡ tree.now }
+    requires named { (text_of tree.now.tokens name ≡ codes "process") × (first_named tree.now.tokens name ≡ name) }
+    ensures program { IfOk result (λ p. program_value tree.now.tokens (program_of tree.now) ≡ Ok (tree_of p.diagrams p.root, p.controls)) }
+    ensures refusal { IfErr result (λ e. (e ≡ NoMemory) ⊎ (program_value tree.now.tokens (program_of tree.now) ≡ Err e)) }
+    ensures numbers { IfOk result (λ p. HasNumbers (tree_of p.diagrams p.root)) }
+{
+    steps_mean();
+    evaluates_to_runnables();
+    let (mut machine, first) = started(alloc, tree, name)?;
+    match machine.run(text, first) {
+        Ok(value) => finished(machine, value),
+        Err(refusal) => Err(refusal),
+    }
 }
 
 /// The diagram and the controls that a tree's `process` stands for, or the first refusal that the rules meet.
@@ -145,16 +184,10 @@ pub fn evaluate(alloc: Global, tree: &Tree) -> Result<Program, EvalRefusal>
     ensures runs { IfOk result (λ p. (p.root < count_of p.diagrams) × IsRunnable (tree_of p.diagrams p.root) p.controls) }
     ensures numbers { IfOk result (λ p. HasNumbers (tree_of p.diagrams p.root)) }
 {
-    steps_mean();
-    evaluates_to_runnables();
-    let text = Definitions::new(alloc, tree)?;
     let Some(name) = process_name(tree) else {
         let name = Word::new(alloc, b"process")?;
         return Err(EvalRefusal::UnknownName { name });
     };
-    let (mut machine, first) = started(alloc, tree, name)?;
-    match machine.run(&text, first) {
-        Ok(value) => finished(machine, value),
-        Err(refusal) => Err(refusal),
-    }
+    let text = Definitions::new(alloc, tree)?;
+    evaluated(alloc, tree, &text, name)
 }

@@ -118,8 +118,8 @@ fn take_memory<'a>(
         outputs,
         controls,
     } = playable;
-    let ready = make_ready_graph(alloc, &graph, inputs, &controls, &sizes)?;
     let tape = make_tape(alloc, output, outputs, format, loaded, sizes.block)?;
+    let ready = make_ready_graph(alloc, &graph, inputs, &controls, &sizes)?;
     Ok(Prepared {
         inputs,
         outputs,

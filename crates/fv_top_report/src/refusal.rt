@@ -23,7 +23,7 @@ use fv_wav::WaveRefusal;
 use std::alloc::AllocError;
 
 /// Why a run was refused. Lines and columns of the program's text, and lines of a script, count from 1; a column is one byte.
-#[derive(Debug, Drop)]
+#[derive(Drop)]
 pub enum Refusal {
     /// The words are not those of a command.
     Usage {

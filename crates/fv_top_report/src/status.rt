@@ -6,7 +6,7 @@ ghost use Rattle.fv_top_report.specs.Lines.{exit_status};
 use crate::refusal::Refusal;
 
 /// How a run ended.
-#[derive(Debug, Drop)]
+#[derive(Drop)]
 pub enum Status {
     Done(Tally),
     Refused(Refusal),

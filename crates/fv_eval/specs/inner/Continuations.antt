@@ -8,7 +8,7 @@ use Rattle.fv_parse_grammar.specs.Iteration.{Iteration as Repetition}
 use Rattle.fv_parse.specs.headline.Trees.{text_of, label_of}
 use Rattle.fv_parse.specs.Trees.{Parsed, size_of, tree_in, first_named}
 use Rattle.fv_diagram.specs.headline.Diagram.{Diagram}
-use Rattle.fv_diagram.specs.Arena.{count_of}
+use Rattle.fv_diagram.specs.Arena.{count_of, empty_arena}
 use Rattle.fv_eval_drawing.specs.Makes.{AreThere, trees_of}
 use Rattle.fv_rules.specs.declared.refusal.EvalRefusal.{EvalRefusal}
 use Rattle.fv_rules.specs.declared.refusal.EvalRefusal.TheVariants.{NoMemory}
@@ -38,6 +38,8 @@ use Rattle.fv_eval_scopes.specs.declared.value.Binding as code_binding
 use Rattle.fv_eval_choosing.specs.Chosen.{ShowsChoice}
 use Rattle.fv_eval_patterns.specs.Trials.{Recalls}
 use Rattle.fv_eval_choosing.specs.Shortcuts.{AreShortcuts}
+use Rattle.fv_eval_scopes.specs.declared.value.Scope.{Scope as AScope}
+use Rattle.fv_eval_patterns.specs.Remembered.{nothing}
 
 -- the lists of a machine over a tree
 abbrev pub world : Parsed → code_machine.Machine → World
@@ -45,6 +47,12 @@ world p m = record { tree = p; diagrams = m.drawing.diagrams; scopes = m.scopes.
 
 abbrev pub state_of : code_machine.Machine → State
 state_of m = record { visits = m.visits; controls = m.controls; slot = m.slot; tables = m.drawing.tables }
+
+-- nothing was drawn yet, no scope was opened, nothing waits and nothing is remembered, in a machine that begins in this state
+abbrev pub IsNew : code_machine.Machine → State → Type 0
+IsNew m s =
+    (m.drawing.diagrams ≡ empty_arena) × (m.scopes ≡ record { scopes = []; taken = [] }) × (m.continuations ≡ []) × (state_of m ≡ s)
+    × (m.trials ≡ nothing) × ((p : Parsed) (scopes : List AScope) → AreShortcuts p scopes m.shortcuts)
 
 -- what the machine remembers of patterns and of ways outward is true of the tree
 abbrev pub Knows : Parsed → code_machine.Machine → Type 0

@@ -7,13 +7,13 @@ use Rattle.fv_eval_scopes.specs.declared.value.Value.TheVariants.{Diagram}
 use Rattle.fv_rules.specs.headline.Rules.{start}
 use Rattle.fv_eval.specs.inner.Continuations.{state_of}
 use Rattle.fv_eval.proofs.Runs.{done, done_flat, is_left, is_program, of_process, refused, run_ends, runs_first, whole}
-use Rattle.fv_eval.proofs.whole.evaluate.Goals as goal
-use Rattle.fv_eval.proofs.whole.evaluate.Goals.{In-Ok}
+use Rattle.fv_eval.proofs.whole.evaluated.Goals as goal
+use Rattle.fv_eval.proofs.whole.evaluated.Goals.{In-Ok}
 
 pub run-requires : goal.run-requires
 run-requires c =
     let p = c.args.tree.now in
-    runs_first p c.in_ok-text.text c.in_ok-machine.machine c.in_ok-machine.first (whole p.tokens (program_of p)) c.in_ok-text.ensures c.in_ok-machine.ensures
+    runs_first p c.args.text.now c.in_ok-machine.machine c.in_ok-machine.first (whole p.tokens (program_of p)) c.requires.text c.in_ok-machine.ensures
 
 -- the run came to a diagram
 flat : (c : In-Ok) → (i : ℕ) × (c.in-Ok.value ≡ Diagram i)
@@ -22,7 +22,7 @@ flat c =
     let w = c.in_ok-machine in
     let u = c.in-Ok.value in
     done_flat p c.run.new.self u c.steps_mean.ensures.starts
-    (run_ends p c.in_ok-text.text w.machine c.run.new.self w.first c.run.result (Ok u) (whole p.tokens (program_of p)) c.in_ok-text.ensures c.in-Ok.is
+    (run_ends p c.args.text.now w.machine c.run.new.self w.first c.run.result (Ok u) (whole p.tokens (program_of p)) c.requires.text c.in-Ok.is
     w.ensures c.run.ensures)
 
 pub finished-requires-clause-flat : goal.finished-requires-clause-flat
@@ -37,8 +37,8 @@ came_to c i e =
     let n = c.run.new.self in
     let w = c.in_ok-machine in
     done p n i c.steps_mean.ensures.starts
-    (run_ends p c.in_ok-text.text w.machine n w.first c.run.result
-    (Ok (Diagram i)) (whole p.tokens (program_of p)) c.in_ok-text.ensures (c.in-Ok.is ∙ ap Ok e) w.ensures c.run.ensures)
+    (run_ends p c.args.text.now w.machine n w.first c.run.result
+    (Ok (Diagram i)) (whole p.tokens (program_of p)) c.requires.text (c.in-Ok.is ∙ ap Ok e) w.ensures c.run.ensures)
 
 pub finished-requires-clause-inside : goal.finished-requires-clause-inside
 finished-requires-clause-inside c = λ i e. (came_to (goal.at.finished-requires-clause-inside c).In-Ok i e).0
@@ -75,11 +75,11 @@ returns-in-Ok-clause-refusal c =
     ∙ ap Err (sym h.0)))
     c.finished.ensures.refusal
 
-pub returns-clause-refusal : goal.returns-clause-refusal
-returns-clause-refusal c =
+pub returns-in-Err-clause-refusal : goal.returns-in-Err-clause-refusal
+returns-in-Err-clause-refusal c =
     let p = c.args.tree.now in
     let n = c.run.new.self in
     let w = c.in_ok-machine in
     refused p n c.in-Err.refusal c.steps_mean.ensures.starts
-    (run_ends p c.in_ok-text.text w.machine n w.first c.run.result
-    (Err c.in-Err.refusal) (whole p.tokens (program_of p)) c.in_ok-text.ensures c.in-Err.is w.ensures c.run.ensures)
+    (run_ends p c.args.text.now w.machine n w.first c.run.result
+    (Err c.in-Err.refusal) (whole p.tokens (program_of p)) c.requires.text c.in-Err.is w.ensures c.run.ensures)
