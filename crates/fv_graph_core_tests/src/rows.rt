@@ -1,6 +1,6 @@
 // Worked examples: events that replay, and events that do not.
 
-ghost use Rattle.std.specs.Prelude.{◌<◌};
+ghost use Rattle.std.specs.Prelude.{◌≡◌, ◌<◌};
 
 use fv_graph::Tasks;
 use fv_graph_core::{Core, Event, replay};
@@ -144,8 +144,8 @@ fn first_wrong(
     requires { 0 < workers }
 {
     for row in rows {
-        let core = replay(alloc, tasks, workers, row.events)?;
-        if core.is_some() != row.replays {
+        let replays = replay(alloc, tasks, workers, row.events)?.is_some();
+        if replays != row.replays {
             return Ok(row.name);
         }
     }
@@ -154,32 +154,34 @@ fn first_wrong(
 
 #[test]
 fn rows_of_loops_apart(rt: HostRuntime) -> Result<(), Fail> {
-    let alloc = rt.alloc();
-    let tasks = apart(alloc)?;
-    assert_eq!(rt; first_wrong(alloc, &tasks, 1, &APART)?, "");
+    let wrong = first_wrong(rt.alloc(), &apart(rt.alloc())?, 1, &APART)?;
+    assert_eq!(rt; wrong, "");
     Ok(())
 }
 
 #[test]
 fn rows_of_a_pair(rt: HostRuntime) -> Result<(), Fail> {
-    let alloc = rt.alloc();
-    let tasks = pair(alloc)?;
-    assert_eq!(rt; first_wrong(alloc, &tasks, 2, &PAIR)?, "");
+    let wrong = first_wrong(rt.alloc(), &pair(rt.alloc())?, 2, &PAIR)?;
+    assert_eq!(rt; wrong, "");
     Ok(())
+}
+
+// The end of a task that does not run is refused, and the first task can still be taken.
+fn assert_stays(rt: &impl Abort, core: &mut Core, tasks: &Tasks)
+    requires { core.old.tasks ≡ tasks.now.tasks }
+{
+    let finish = Event::Finish { worker: 0, task: 0 };
+    assert!(rt; core.step(tasks, finish).is_err());
+    assert_eq!(rt; core.next_of(0), Some(1));
+    let take = Event::Take { worker: 0, task: 1 };
+    assert!(rt; core.step(tasks, take).is_ok());
 }
 
 // An event that is not legal leaves the core as it was.
 #[test]
 fn an_illegal_event(rt: HostRuntime) -> Result<(), Fail> {
-    let alloc = rt.alloc();
-    let tasks = apart(alloc)?;
-    let mut core = Core::new(alloc, &tasks, 1)?;
-    let finish = Event::Finish { worker: 0, task: 0 };
-    assert!(rt; core.step(&tasks, finish).is_err());
-    assert_eq!(rt; core.next_of(0), Some(1));
-    assert!(rt;
-        core.step(&tasks, Event::Take { worker: 0, task: 1 })
-            .is_ok()
-    );
+    let tasks = apart(rt.alloc())?;
+    let mut core = Core::new(rt.alloc(), &tasks, 1)?;
+    assert_stays(&rt, &mut core, &tasks);
     Ok(())
 }

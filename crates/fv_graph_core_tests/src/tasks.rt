@@ -1,6 +1,9 @@
 // Tasks and their edges, by hand: loop 1 reads loop 0, three vectors. Each vector has the edges into its two tasks, and then
 // that of the pair; the last two edges are the exits.
 
+ghost use Rattle.std.specs.Prelude.{◌<◌};
+ghost use Rattle.fv_outside.specs.Tasks.{task_count};
+
 use fv_graph::Tasks;
 use fv_outside::{Reads, Task};
 use std::process::Abort;
@@ -81,16 +84,53 @@ static THREE_VECTORS: [Row; 6] = [
 // The tasks that the edges go into, but for the exits.
 const READERS: [u64; 9] = [0, 1, 1, 2, 3, 3, 4, 5, 5];
 
+// What of a task is otherwise than its row says; nothing where all is so.
+fn wrong_part(tasks: &Tasks, t: u64, row: &Row) -> &'static str
+    requires { t < task_count tasks.now.tasks }
+{
+    if tasks.task(t) != row.task {
+        return "the loop and the vector";
+    }
+    if tasks.inward(t) != row.inward {
+        return "the edges into it";
+    }
+    if tasks.outward(t) != row.outward {
+        return "the edges out of it";
+    }
+    if tasks.feeds(t) != row.feeds {
+        return "what it feeds";
+    }
+    if tasks.count(t) != row.count {
+        return "how many it reads";
+    }
+    ""
+}
+
 // Fails where the tasks are not those of the rows.
-fn compare(rt: &impl Abort, tasks: &Tasks, rows: &[Row]) {
+fn assert_are_tasks(rt: &impl Abort, tasks: &Tasks, rows: &[Row]) {
     assert_eq!(rt; tasks.len(), rows.len() as u64);
     for t in 0..tasks.len() {
-        let row = &rows[t as usize];
-        assert_eq!(rt; tasks.task(t), row.task);
-        assert!(rt; tasks.inward(t) == row.inward, "into {t}");
-        assert!(rt; tasks.outward(t) == row.outward, "out of {t}");
-        assert!(rt; tasks.feeds(t) == row.feeds, "fed by {t}");
-        assert_eq!(rt; tasks.count(t), row.count);
+        let wrong = wrong_part(tasks, t, &rows[t as usize]);
+        assert!(rt; wrong.is_empty(), "{wrong} of {t}");
+    }
+}
+
+// Fails where the edges do not go into those.
+fn assert_are_readers(rt: &impl Abort, tasks: &Tasks) {
+    assert_eq!(rt; tasks.edges(), 11);
+    for edge in 0..9u64 {
+        assert!(rt; edge < tasks.edges());
+        assert_eq!(rt; tasks.reader(edge), READERS[edge as usize]);
+    }
+}
+
+// With two vectors, the tasks of the second one feed none behind them.
+fn assert_has_two_vectors(rt: &impl Abort, tasks: &Tasks) {
+    assert_eq!(rt; (tasks.len(), tasks.edges()), (4, 8));
+    for t in 2..4u64 {
+        assert!(rt; t < tasks.len());
+        let inner = &THREE_VECTORS[t as usize].outward[1..];
+        assert!(rt; tasks.feeds(t) == inner, "fed by {t} of the last vector");
     }
 }
 
@@ -101,18 +141,9 @@ fn tasks_of_a_pair(rt: HostRuntime) -> Result<(), Fail> {
         source: 0,
     }];
     let mut tasks = Tasks::new(rt.alloc(), 2, 3, &reads)?;
-    compare(&rt, &tasks, &THREE_VECTORS);
-    assert_eq!(rt; tasks.edges(), 11);
-    for edge in 0..9u64 {
-        assert!(rt; edge < tasks.edges());
-        assert_eq!(rt; tasks.reader(edge), READERS[edge as usize]);
-    }
+    assert_are_tasks(&rt, &tasks, &THREE_VECTORS);
+    assert_are_readers(&rt, &tasks);
     tasks.set_vectors(2);
-    assert_eq!(rt; (tasks.len(), tasks.edges()), (4, 8));
-    for t in 2..4u64 {
-        assert!(rt; t < tasks.len());
-        let inner = &THREE_VECTORS[t as usize].outward[1..];
-        assert!(rt; tasks.feeds(t) == inner, "fed by {t} of the last vector");
-    }
+    assert_has_two_vectors(&rt, &tasks);
     Ok(())
 }
