@@ -144,12 +144,27 @@ pub(crate) fn shelf_of(alloc: Global, count: u64) -> Result<Shelf, AllocError>
     })
 }
 
+/// The code of these steps.
+pub(crate) fn code_of(alloc: Global, steps: &[Step], counts: Counts) -> Result<Code, Fail>
+    ensures { IfOk result (λ code. code ≡ steps.now) }
+{
+    match Code::new(alloc, steps, counts)? {
+        Some(code) => Ok(code),
+        None => Err("no code".into()),
+    }
+}
+
+/// Fails where the numbers are others.
+pub(crate) fn assert_are(rt: &impl Abort, name: &str, numbers: &[i32], wanted: &[i32]) {
+    assert_eq!(rt; numbers, wanted, "{name}");
+}
+
 #[test]
 fn code_reads_earlier_steps(rt: HostRuntime) -> Result<(), Fail> {
     for (name, steps) in &REFUSED {
         assert!(rt; !are_valid(steps, ONE_LANE), "{name}");
-        let code = Code::new(rt.alloc(), steps, ONE_LANE)?;
-        assert!(rt; code.is_none(), "{name}");
+        let is_code = Code::new(rt.alloc(), steps, ONE_LANE)?.is_some();
+        assert!(rt; !is_code, "{name}");
     }
     Ok(())
 }
@@ -165,19 +180,24 @@ pub(crate) fn sum(code: &Code, input: &[i32], count: u64, registers: &mut [i32],
     run(code.steps(), &[], input, 1, 0, count, registers, shelf);
 }
 
+// Fails where they are not the steps of the code.
+fn assert_has_steps(rt: &impl Abort, code: &Code, steps: &[Step]) {
+    assert_eq!(rt; code.len(), steps.len() as u64);
+    assert!(rt; !code.is_empty());
+    assert_eq!(rt; code.steps(), steps);
+}
+
 #[test]
 fn a_running_sum(rt: HostRuntime) -> Result<(), Fail> {
-    let Some(code) = Code::new(rt.alloc(), &SUM, ONE_LANE)? else {
-        return Err("no code".into());
-    };
-    assert_eq!(rt; code.len(), 7);
-    assert!(rt; !code.is_empty());
-    assert_eq!(rt; code.steps(), SUM.as_slice());
-    let mut registers = [0; 7];
     let mut shelf = shelf_of(rt.alloc(), 3)?;
+    let code = code_of(rt.alloc(), &SUM, ONE_LANE)?;
+    assert_has_steps(&rt, &code, &SUM);
+    let mut registers = [0; 7];
     sum(&code, &[5, 7, 4], 3, &mut registers, &mut shelf);
-    assert_eq!(rt; shelf.samples.as_slice(), [0, 20, 62, 74].as_slice());
-    assert_eq!(rt; registers.as_slice(), [4, 16, 12, 1, 62, 74, 74].as_slice());
+    assert_are(&rt, "samples", &shelf.samples, &[0, 20, 62, 74]);
+    assert_are(&rt, "registers", &registers, &[4, 16, 12, 1, 62, 74, 74]);
+    drop(code);
+    drop(shelf);
     Ok(())
 }
 
@@ -192,14 +212,14 @@ fn hold(code: &Code, held: &[i32], registers: &mut [i32], shelf: &mut Shelf)
 
 #[test]
 fn held_values_are_registers(rt: HostRuntime) -> Result<(), Fail> {
-    let Some(code) = Code::new(rt.alloc(), &DIFFERENCE, NOTHING)? else {
-        return Err("no code".into());
-    };
-    let mut registers = [0; 3];
     let mut shelf = shelf_of(rt.alloc(), 0)?;
+    let code = code_of(rt.alloc(), &DIFFERENCE, NOTHING)?;
+    let mut registers = [0; 3];
     hold(&code, &[7, 9], &mut registers, &mut shelf);
-    assert_eq!(rt; registers.as_slice(), [7, 9, -2].as_slice());
-    assert_eq!(rt; shelf.samples.as_slice(), [0].as_slice());
+    assert_are(&rt, "registers", &registers, &[7, 9, -2]);
+    assert_are(&rt, "samples", &shelf.samples, &[0]);
+    drop(code);
+    drop(shelf);
     Ok(())
 }
 
@@ -214,14 +234,14 @@ fn scale(code: &Code, input: &[i32], registers: &mut [i32], shelf: &mut Shelf)
 
 #[test]
 fn quotients_are_rounded_toward_zero(rt: HostRuntime) -> Result<(), Fail> {
-    let Some(code) = Code::new(rt.alloc(), &SCALED, NOTHING)? else {
-        return Err("no code".into());
-    };
-    let mut registers = [0; 5];
     let mut shelf = shelf_of(rt.alloc(), 0)?;
+    let code = code_of(rt.alloc(), &SCALED, NOTHING)?;
+    let mut registers = [0; 5];
     scale(&code, &[-7], &mut registers, &mut shelf);
-    assert_eq!(rt; registers.as_slice(), [-7, 3, -21, 4, -5].as_slice());
+    assert_are(&rt, "of -7", &registers, &[-7, 3, -21, 4, -5]);
     scale(&code, &[7], &mut registers, &mut shelf);
-    assert_eq!(rt; registers.as_slice(), [7, 3, 21, 4, 5].as_slice());
+    assert_are(&rt, "of 7", &registers, &[7, 3, 21, 4, 5]);
+    drop(code);
+    drop(shelf);
     Ok(())
 }

@@ -5,9 +5,9 @@ ghost use Rattle.fv_loopcode_machine.specs.Scratches.{IsNew, HasRoom as HasScrat
 ghost use Rattle.fv_loopcode_tests.specs.Codes.{written_and_looked_up, written_again};
 ghost use Rattle.fv_loopcode_tests.specs.Shelf.{HasRoom};
 
-use crate::rows::shelf_of;
+use crate::rows::{assert_are, code_of, shelf_of};
 use crate::shelf::Shelf;
-use crate::strips::used;
+use crate::strips::{Sides, assert_same, sides_of, used};
 use fv_loopcode::{Counts, Step};
 use fv_loopcode_machine::{Code, Scratch};
 use fv_num::Op;
@@ -79,43 +79,47 @@ fn by_strips(code: &Code, input: &[i32], count: u64, scratch: &mut Scratch, shel
 
 #[test]
 fn what_is_written_is_read_at_once(rt: HostRuntime) -> Result<(), Fail> {
-    let Some(code) = Code::new(rt.alloc(), &WRITTEN_AND_LOOKED_UP, ONE)? else {
-        return Err("no code".into());
-    };
-    let mut scratch = used(rt.alloc(), 5)?;
     let mut shelf = shelf_of(rt.alloc(), 3)?;
-    by_strips(
-        &code,
-        &[0, 1, 0, 1, 5, 0, 0, 9, 1],
-        3,
-        &mut scratch,
-        &mut shelf,
-    );
-    assert_eq!(rt; shelf.cells.as_slice(), [9, 5].as_slice());
-    assert_eq!(rt; scratch.registers(), [0, 9, 1, 5, 30].as_slice());
+    let mut scratch = used(rt.alloc(), 5)?;
+    let code = code_of(rt.alloc(), &WRITTEN_AND_LOOKED_UP, ONE)?;
+    let input = [0, 1, 0, 1, 5, 0, 0, 9, 1];
+    by_strips(&code, &input, 3, &mut scratch, &mut shelf);
+    assert_are(&rt, "cells", &shelf.cells, &[9, 5]);
+    assert_are(&rt, "registers", scratch.registers(), &[0, 9, 1, 5, 30]);
+    drop(code);
+    drop(scratch);
+    drop(shelf);
     Ok(())
 }
 
 // Two strips and a part of a third.
 const COUNT: u64 = 70;
 
-#[test]
-fn strips_write_as_samples_do(rt: HostRuntime) -> Result<(), Fail> {
+// Runs the code both ways; the registers are those of the run by samples.
+fn write_both(code: &Code, sides: &mut Sides) -> [i32; 9]
+    requires code { code.now ≡ written_again }
+    requires samples { HasRoom sides.old.samples 70 }
+    requires strips { HasRoom sides.old.strips 70 }
+    requires scratch { IsNew 9 sides.old.scratch }
+    ensures { HasScratchRoom written_again sides.new.scratch }
+{
     let mut input = [0; 210];
     for k in 0..input.len() {
         input[k] = (k as i32 * 37) % 5 - 1;
     }
-    let Some(code) = Code::new(rt.alloc(), &WRITTEN_AGAIN, ONE)? else {
-        return Err("no code".into());
-    };
     let mut registers = [0; 9];
-    let mut samples = shelf_of(rt.alloc(), COUNT)?;
-    by_samples(&code, &input, COUNT, &mut registers, &mut samples);
-    let mut scratch = used(rt.alloc(), 9)?;
-    let mut strips = shelf_of(rt.alloc(), COUNT)?;
-    by_strips(&code, &input, COUNT, &mut scratch, &mut strips);
-    assert_eq!(rt; strips.samples.as_slice(), samples.samples.as_slice());
-    assert_eq!(rt; strips.cells.as_slice(), samples.cells.as_slice());
-    assert_eq!(rt; scratch.registers(), registers.as_slice());
+    by_samples(code, &input, COUNT, &mut registers, &mut sides.samples);
+    by_strips(code, &input, COUNT, &mut sides.scratch, &mut sides.strips);
+    registers
+}
+
+#[test]
+fn strips_write_as_samples_do(rt: HostRuntime) -> Result<(), Fail> {
+    let mut sides = sides_of(rt.alloc(), COUNT, 9)?;
+    let code = code_of(rt.alloc(), &WRITTEN_AGAIN, ONE)?;
+    let registers = write_both(&code, &mut sides);
+    assert_same(&rt, &mut sides, &registers);
+    drop(code);
+    drop(sides);
     Ok(())
 }
