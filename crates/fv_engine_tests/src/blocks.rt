@@ -1,10 +1,9 @@
 // Rows of blocks.
 
-ghost use Rattle.std.specs.Prelude.{◌≡◌, ◌<◌, ◌≤◌, length};
+ghost use Rattle.std.specs.Prelude.{◌≡◌, ◌<◌};
 ghost use Rattle.fv_engine_tests.specs.Runs.{IsSquare};
 
-use crate::engines::{Sizes, engine_of, play, play_graph};
-use crate::graphs::graph_of;
+use crate::engines::{Reported, Sizes, engine_of, play, play_graph};
 use fv_engine::{Engine, NoMemory};
 use fv_outside::{FreeGate, Gate, Line, Reads, Recorder, Task};
 use fv_signal::Graph;
@@ -14,8 +13,8 @@ use std::process::Abort;
 use std::sync::Wait;
 use std::test::Fail;
 use std::thread::Threads;
-use test_gates::{Counter, block_of};
-use test_graphs::{by_a_control, delayed, difference, echo_left};
+use test_gates::block_of;
+use test_graphs::{by_a_control, delayed, difference};
 
 // A line of the first vector of a loop.
 fn line(loop_no: u64, start: u64) -> Line
@@ -98,36 +97,8 @@ const SMALL: Sizes = Sizes {
     workers: 1,
 };
 
-// Plays fives under this control, one or two frames of them.
+// Three blocks of fives: the control is 1, from the third frame on 3, and from the fourth 0.
 fn play_fives<R: Threads + Wait + Sync>(
-    rt: &R,
-    alloc: Global,
-    engine: &mut Engine,
-    control: i32,
-    output: &mut [i32],
-    recorder: &mut Recorder,
-)
-    requires engine { IsSquare engine.old 1 4 1 }
-    requires output { length output.old ≤ 2 }
-    ensures { IsSquare engine.new 1 4 1 }
-{
-    let input = [5, 5];
-    let frames = output.len();
-    play(
-        rt,
-        alloc,
-        engine,
-        SMALL,
-        &[control],
-        frames as u32,
-        &input[..frames],
-        output,
-        recorder,
-    );
-}
-
-// Three blocks: the control is 1, from the third frame on 3, and from the fourth 0.
-fn play_changes<R: Threads + Wait + Sync>(
     rt: &R,
     alloc: Global,
     engine: &mut Engine,
@@ -138,21 +109,61 @@ fn play_changes<R: Threads + Wait + Sync>(
     let mut first = [0; 2];
     let mut second = [0; 1];
     let mut third = [0; 2];
-    play_fives(rt, alloc, engine, 1, &mut first, recorder);
-    play_fives(rt, alloc, engine, 3, &mut second, recorder);
-    play_fives(rt, alloc, engine, 0, &mut third, recorder);
+    play(
+        rt,
+        alloc,
+        engine,
+        SMALL,
+        &[1],
+        2,
+        &[5, 5],
+        &mut first,
+        recorder,
+    );
+    play(
+        rt,
+        alloc,
+        engine,
+        SMALL,
+        &[3],
+        1,
+        &[5],
+        &mut second,
+        recorder,
+    );
+    play(
+        rt,
+        alloc,
+        engine,
+        SMALL,
+        &[0],
+        2,
+        &[5, 5],
+        &mut third,
+        recorder,
+    );
     (first, second, third)
+}
+
+// The same by an engine of this graph.
+fn play_changes<R: Abort + Threads + Wait + Sync>(
+    rt: &R,
+    alloc: Global,
+    graph: &Graph,
+    recorder: &mut Recorder,
+) -> Result<([i32; 2], [i32; 1], [i32; 2]), NoMemory> {
+    let mut engine = engine_of(rt, alloc, graph, SMALL, 1)?;
+    let outputs = play_fives(rt, alloc, &mut engine, recorder);
+    drop(engine);
+    Ok(outputs)
 }
 
 // Each block is told, of one loop, one vector and one line.
 #[test]
 fn a_control_that_changes(rt: HostRuntime) -> Result<(), Fail> {
     let graph = by_a_control(rt.alloc())?;
-    let Some(mut engine) = engine_of(rt.alloc(), &graph, SMALL, 1)? else {
-        panic!(rt; "no engine");
-    };
     let mut recorder = Recorder::new(rt.alloc(), 3, 3)?;
-    let outputs = play_changes(&rt, rt.alloc(), &mut engine, &mut recorder);
+    let outputs = play_changes(&rt, rt.alloc(), &graph, &mut recorder)?;
     assert_eq!(rt;
         (outputs, recorder.calls()),
         (([5, 5], [15], [0, 0]), Some(3))
@@ -274,13 +285,13 @@ fn is_in_order(recorder: &Recorder) -> bool {
     true
 }
 
-// The samples are 1, 3, 5, 7 .. of each square, by 12 tasks in order, and no block runs alone.
-fn assert_differences<R: Abort + Threads + Wait + Sync>(
+// Twelve squares by so many workers: what is reported, the samples, and whether the lines of the one block are in order.
+fn play_squares<R: Abort + Threads + Wait + Sync>(
     rt: &R,
     alloc: Global,
     graph: &Graph,
     workers: u32,
-) -> Result<(), Fail> {
+) -> Result<(Reported, [i32; 12], bool), NoMemory> {
     let sizes = Sizes {
         width: 1,
         block: 32,
@@ -300,100 +311,23 @@ fn assert_differences<R: Abort + Threads + Wait + Sync>(
         &mut output,
         &mut recorder,
     )?;
+    Ok((reported, output, is_in_order(&recorder)))
+}
+
+// The samples are 1, 3, 5, 7 .. of each square, by 12 tasks in order, and no block runs alone.
+fn assert_differences<R: Abort + Threads + Wait + Sync>(
+    rt: &R,
+    alloc: Global,
+    graph: &Graph,
+    workers: u32,
+) -> Result<(), NoMemory> {
+    let (reported, output, in_order) = play_squares(rt, alloc, graph, workers)?;
     assert_eq!(rt;
         (reported.tasks, reported.alone, output),
         (12, 0, [1, 3, 5, 7, 9, 11, 13, 15, 17, 19, 21, 23]),
         "workers {workers}"
     );
-    assert!(rt; is_in_order(&recorder), "workers {workers}");
-    Ok(())
-}
-
-// An echo of 1000: the same samples by blocks and vectors of each size, and the gate sees each task that is reported.
-#[test]
-fn echoes_by_each_size(rt: HostRuntime) -> Result<(), Fail> {
-    let graph = echo_left(rt.alloc())?;
-    for (block, vector) in [(1, 1), (7, 7), (512, 32)] {
-        assert_echoes(&rt, rt.alloc(), &graph, (0, 0), block, vector, 1)?;
-    }
-    Ok(())
-}
-
-// Echoes of both channels by several workers: no block of theirs is reported as alone.
-#[test]
-fn blocks_that_always_run_alone_are_refused(rt: HostRuntime) -> Result<(), Fail> {
-    let text = "echo(d,g) = + ~ (@(d-1) : *(g) : /(256)); process = par(i,2,echo(11025,128));";
-    let graph = graph_of(rt.alloc(), text)?;
-    for (block, vector, workers) in [(7, 7, 2), (512, 32, 2), (512, 32, 16)] {
-        assert_echoes(&rt, rt.alloc(), &graph, (-3, -1), block, vector, workers)?;
-    }
-    Ok(())
-}
-
-// The left channel is 1000 at first, half of it after 11,025 samples, and a quarter after as many more; the right one is -7 at first,
-// and these two numbers at the same places.
-fn echo_at(frame: usize, right: (i32, i32)) -> (i32, i32) {
-    match frame {
-        0 => (1000, -7),
-        11025 => (500, right.0),
-        22050 => (250, right.1),
-        _ => (0, 0),
-    }
-}
-
-// The frames are those.
-fn assert_are_echoes(rt: &impl Abort, output: &[i32], right: (i32, i32), sizes: Sizes)
-    requires { length output.now ≡ 44102 }
-{
-    for t in 0..22051 {
-        assert_eq!(rt;
-            (output[2 * t], output[2 * t + 1]),
-            echo_at(t, right),
-            "frame {t}, block {}, workers {}",
-            sizes.block,
-            sizes.workers
-        );
-    }
-}
-
-// What is heard is the first frame and silence, and what is said are those. No block runs alone.
-fn assert_echoes<R: Abort + Threads + Wait + Sync>(
-    rt: &R,
-    alloc: Global,
-    graph: &Graph,
-    right: (i32, i32),
-    block: u32,
-    vector: u32,
-    workers: u32,
-) -> Result<(), NoMemory> {
-    let sizes = Sizes {
-        width: 2,
-        block,
-        vector,
-        workers,
-    };
-    let mut input = Vec::from_elem(alloc, 0, 44102)?;
-    let mut output = Vec::from_elem(alloc, -1, 44102)?;
-    input[0] = 1000;
-    input[1] = -7;
-    let mut counter = Counter::new();
-    let reported = play_graph(
-        rt,
-        alloc,
-        graph,
-        sizes,
-        22051,
-        &input,
-        &mut output,
-        &mut counter,
-    )?;
-    assert_are_echoes(rt, &output, right, sizes);
-    assert!(rt; reported.tasks > 0);
-    assert_eq!(rt;
-        (reported.alone, counter.tasks()),
-        (0, reported.tasks),
-        "block {block}, workers {workers}"
-    );
+    assert!(rt; in_order, "workers {workers}");
     Ok(())
 }
 
@@ -420,19 +354,29 @@ fn parts_of(engine: &Engine) -> Option<([u64; 2], u64, [u64; 2])> {
     Some((lengths, engine.region().len(), starts))
 }
 
-// Each lane has a part, of a history and a block, and its history starts there.
-#[test]
-fn lanes_have_parts(rt: HostRuntime) -> Result<(), Fail> {
-    let graph = difference(rt.alloc())?;
+// The parts of an engine of this graph.
+fn parts_for(
+    rt: &impl Abort,
+    alloc: Global,
+    graph: &Graph,
+) -> Result<Option<([u64; 2], u64, [u64; 2])>, NoMemory> {
     let sizes = Sizes {
         width: 1,
         block: 4,
         vector: 2,
         workers: 1,
     };
-    let Some(engine) = engine_of(rt.alloc(), &graph, sizes, 0)? else {
-        panic!(rt; "no engine");
-    };
-    assert_eq!(rt; parts_of(&engine), Some(([5, 4], 9, [0, 0])));
+    let engine = engine_of(rt, alloc, graph, sizes, 0)?;
+    let parts = parts_of(&engine);
+    drop(engine);
+    Ok(parts)
+}
+
+// Each lane has a part, of a history and a block, and its history starts there.
+#[test]
+fn lanes_have_parts(rt: HostRuntime) -> Result<(), Fail> {
+    let graph = difference(rt.alloc())?;
+    let parts = parts_for(&rt, rt.alloc(), &graph)?;
+    assert_eq!(rt; parts, Some(([5, 4], 9, [0, 0])));
     Ok(())
 }

@@ -1,18 +1,20 @@
 // Engines of graphs, and their runs.
 
-ghost use Rattle.std.specs.Prelude.{◌≡◌, ◌*◌, ◌^◌, ◌<◌, ◌≤◌, IfOk, IfSome, IsTrue, length};
+ghost use Rattle.std.specs.Prelude.{◌≡◌, ◌*◌, ◌^◌, ◌<◌, ◌≤◌, IfOk, IsTrue, length};
 ghost use Rattle.fv_base.specs.declared.limits.TheConstants.{MOST_BLOCK, MOST_CHANNELS, MOST_VECTORS, MOST_WORKERS};
+ghost use Rattle.fv_split_plan.specs.headline.Plans.{PlanNames};
 ghost use Rattle.fv_engine.specs.Block.{vectors_of};
 ghost use Rattle.fv_engine_tests.specs.Runs.{IsSquare};
 
-use crate::may::{histories_beyond, names_beyond};
+use crate::may::may_be_prepared;
 use fv_analysis::{largest_delays, rates};
 use fv_base::limits::{MOST_BLOCK, MOST_CHANNELS, MOST_VECTORS, MOST_WORKERS};
 use fv_engine::{Engine, NoMemory};
 use fv_outside::Gate;
 use fv_signal::Graph;
 use fv_split::split;
-use std::alloc::Global;
+use fv_split_plan::Plan;
+use std::alloc::{AllocError, Global};
 use std::marker::Sync;
 use std::process::Abort;
 use std::sync::Wait;
@@ -54,36 +56,32 @@ pub(crate) struct Reported {
     pub(crate) alone: u64,
 }
 
-/// An engine of a graph with as many inputs and outputs and so many controls; none where it may not be prepared.
+// The plan of a graph.
+fn plan_of(alloc: Global, graph: &Graph) -> Result<Plan, AllocError>
+    ensures { IfOk result (λ plan. PlanNames graph.now plan) }
+{
+    let rates = rates(alloc, graph)?;
+    let histories = largest_delays(alloc, graph)?;
+    split(alloc, graph, &rates, &histories)
+}
+
+/// An engine of a graph with as many inputs and outputs and so many controls. Fails where it may not be prepared.
 pub(crate) fn engine_of(
+    rt: &impl Abort,
     alloc: Global,
     graph: &Graph,
     sizes: Sizes,
     controls: usize,
-) -> Result<Option<Engine>, NoMemory>
-    ensures block { IfOk result (λ e. IfSome e (λ e. 1 ≤ sizes.block)) }
-    ensures square { IfOk result (λ e. IfSome e (λ e. IsSquare e sizes.width sizes.block controls)) }
+) -> Result<Engine, NoMemory>
+    ensures block { IfOk result (λ e. 1 ≤ sizes.block) }
+    ensures square { IfOk result (λ e. IsSquare e sizes.width sizes.block controls) }
 {
     let allowed = sizes.are_allowed();
-    if !allowed {
-        return Ok(None);
-    }
-    let rates = rates(alloc, graph)?;
-    let histories = largest_delays(alloc, graph)?;
-    let plan = split(alloc, graph, &rates, &histories)?;
-    if plan.loops() == 0 {
-        return Ok(None);
-    }
-    if plan.outputs().len() != sizes.width as usize {
-        return Ok(None);
-    }
-    let beyond = names_beyond(graph, sizes.width, controls);
-    if beyond {
-        return Ok(None);
-    }
-    let long = histories_beyond(&plan);
-    if long {
-        return Ok(None);
+    assert!(rt; allowed, "no such sizes");
+    let plan = plan_of(alloc, graph)?;
+    let may = may_be_prepared(graph, &plan, sizes.width, controls);
+    if !may {
+        panic!(rt; "no engine");
     }
     let engine = Engine::prepare(
         alloc,
@@ -93,7 +91,7 @@ pub(crate) fn engine_of(
         sizes.block,
         sizes.vector,
     )?;
-    Ok(Some(engine))
+    Ok(engine)
 }
 
 /// Runs as many frames as there are in the input, block by block, and says what was reported.
@@ -152,9 +150,7 @@ pub(crate) fn play_graph<R: Abort + Threads + Wait + Sync, G: Gate + Sync>(
     requires input { length input.now ≡ frames * sizes.width }
     requires output { length output.old ≡ frames * sizes.width }
 {
-    let Some(mut engine) = engine_of(alloc, graph, sizes, 0)? else {
-        panic!(rt; "no engine");
-    };
+    let mut engine = engine_of(rt, alloc, graph, sizes, 0)?;
     let reported = play(
         rt,
         alloc,
@@ -166,5 +162,6 @@ pub(crate) fn play_graph<R: Abort + Threads + Wait + Sync, G: Gate + Sync>(
         output,
         gate,
     );
+    drop(engine);
     Ok(reported)
 }

@@ -1,6 +1,6 @@
 // Whether an engine may be prepared of a graph's plan.
 
-ghost use Rattle.std.specs.Prelude.{◌≡◌, ℕ, ◌<◌, ◌≤◌, false, length};
+ghost use Rattle.std.specs.Prelude.{◌≡◌, ℕ, ◌<◌, ◌≤◌, false, length, IsTrue};
 ghost use Rattle.fv_base.specs.declared.limits.TheConstants.{DELAY_BUDGET};
 ghost use Rattle.fv_signal.specs.headline.Rates.{NamesControl};
 ghost use Rattle.fv_split_plan.specs.headline.Plans.{NamesChannel};
@@ -28,8 +28,8 @@ fn is_beyond(signal: Signal, channels: u32, controls: usize) -> bool
     }
 }
 
-/// The graph names an input or a control beyond so many.
-pub(crate) fn names_beyond(graph: &Graph, channels: u32, controls: usize) -> bool
+// The graph names an input or a control beyond so many.
+fn names_beyond(graph: &Graph, channels: u32, controls: usize) -> bool
     ensures inputs { result ≡ false → (i : ℕ) → NamesChannel graph.now i → i < channels }
     ensures controls { result ≡ false → (k : ℕ) → NamesControl graph.now k → k < controls }
 {
@@ -43,8 +43,8 @@ pub(crate) fn names_beyond(graph: &Graph, channels: u32, controls: usize) -> boo
     false
 }
 
-/// A lane keeps more history than an engine allows.
-pub(crate) fn histories_beyond(plan: &Plan) -> bool
+// A lane keeps more history than an engine allows.
+fn histories_beyond(plan: &Plan) -> bool
     ensures { result ≡ false → (l : ℕ) → l < length plan.now.lanes → (lane_info plan.now l).history ≤ DELAY_BUDGET }
 {
     let lanes = plan.lanes();
@@ -54,4 +54,23 @@ pub(crate) fn histories_beyond(plan: &Plan) -> bool
         }
     }
     false
+}
+
+/// An engine for frames of so many numbers in and out and for so many controls may be prepared of a graph's plan.
+pub(crate) fn may_be_prepared(graph: &Graph, plan: &Plan, width: u32, controls: usize) -> bool
+    ensures loops { IsTrue result → 0 < plan.now.loops }
+    ensures outputs { IsTrue result → length plan.now.outputs ≡ width }
+    ensures inputs { IsTrue result → (i : ℕ) → NamesChannel graph.now i → i < width }
+    ensures controls { IsTrue result → (k : ℕ) → NamesControl graph.now k → k < controls }
+    ensures histories { IsTrue result → (l : ℕ) → l < length plan.now.lanes → (lane_info plan.now l).history ≤ DELAY_BUDGET }
+{
+    if plan.loops() == 0 || plan.outputs().len() != width as usize {
+        return false;
+    }
+    let beyond = names_beyond(graph, width, controls);
+    if beyond {
+        return false;
+    }
+    let long = histories_beyond(plan);
+    !long
 }
