@@ -113,14 +113,35 @@ fn counted(now: i32, back: i32) -> i32 {
     now.saturating_sub(back).max(0)
 }
 
-// The first of a lane's samples in a block, and those behind it.
-fn counted_from(first: i32) -> [i32; FRAMES as usize] {
-    [
-        first,
-        first.saturating_add(1),
-        first.saturating_add(2),
-        first.saturating_add(3),
-    ]
+// The samples of such a lane so far back of a block whose first one is `first`.
+fn counted_block(first: i32, back: i32) -> [i32; FRAMES as usize] {
+    let mut block = [0; FRAMES as usize];
+    for i in 0..FRAMES {
+        block[i as usize] = counted(first.saturating_add(i as i32), back);
+    }
+    block
+}
+
+// What three lanes show behind the n-th sample of a block, which is `now` on the first lane.
+fn assert_shown(rt: &impl Abort, solo: &Solo<'_, '_, '_, '_, '_>, n: u64, now: i32)
+    requires solo { IsSolo solo.now }
+    requires n { n < 4 }
+{
+    let seen = [
+        at(rt, solo, 0, n, 0),
+        at(rt, solo, 0, n, 2),
+        at(rt, solo, 1, n, 0),
+        at(rt, solo, 2, n, 0),
+        at(rt, solo, 2, n, 17),
+    ];
+    let wanted = [
+        now,
+        counted(now, 2),
+        7,
+        0i32.saturating_sub(now),
+        0i32.saturating_sub(counted(now, 17)),
+    ];
+    assert_eq!(rt; seen, wanted);
 }
 
 // A block, in which each lane is appended and looked back into as far as its history goes.
@@ -138,21 +159,7 @@ fn play(
     for n in 0..u64::from(FRAMES) {
         let now = first.saturating_add(n as i32);
         append_each(rt, &mut solo, &[now, 7, 0i32.saturating_sub(now)]);
-        let seen = [
-            at(rt, &solo, 0, n, 0),
-            at(rt, &solo, 0, n, 2),
-            at(rt, &solo, 1, n, 0),
-            at(rt, &solo, 2, n, 0),
-            at(rt, &solo, 2, n, 17),
-        ];
-        let wanted = [
-            now,
-            counted(now, 2),
-            7,
-            0i32.saturating_sub(now),
-            0i32.saturating_sub(counted(now, 17)),
-        ];
-        assert_eq!(rt; seen, wanted);
+        assert_shown(rt, &solo, n, now);
     }
     assert!(rt; !solo.is_empty() && are_full(&solo));
     solo.finish();
@@ -186,6 +193,16 @@ fn lanes_go_on_from_block_to_block(rt: HostRuntime) -> Result<(), Fail> {
     Ok(())
 }
 
+// What is loaded of a ring, a block at once.
+fn assert_loaded(rt: &impl Abort, solo: &Solo<'_, '_, '_, '_, '_>, first: i32)
+    requires { IsSolo solo.now }
+{
+    for back in [0u32, 1, 16, 17] {
+        let wanted = counted_block(first, back as i32);
+        assert_eq!(rt; load_block(rt, solo, u64::from(back)), wanted, "{first}");
+    }
+}
+
 // A block of a ring, which is written and read at once, some samples before the end of its cells and the others behind it.
 fn play_at_once(
     rt: &impl Abort,
@@ -198,13 +215,9 @@ fn play_at_once(
 ) {
     assert!(rt; may_begin(layout, shapes, states, begun, cells, FRAMES));
     let mut solo = Solo::begin(cells, layout, shapes, states, begun, FRAMES);
-    let now = counted_from(first);
     assert!(rt; solo.len() == 1 && solo.room(0) >= FRAMES);
-    solo.append_many(0, &now);
-    for back in [0u32, 1, 16, 17] {
-        let wanted = now.map(|value| counted(value, back as i32));
-        assert_eq!(rt; load_block(rt, &solo, u64::from(back)), wanted, "{first}");
-    }
+    solo.append_many(0, &counted_block(first, 0));
+    assert_loaded(rt, &solo, first);
     assert!(rt; are_full(&solo));
     solo.finish();
 }

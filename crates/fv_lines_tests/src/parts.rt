@@ -1,9 +1,10 @@
 // Parts of lengths 2, 0 and 3 in a region of five cells, and parts that two threads write.
 
 use fv_pool::{Cutter, Layout, Part, Region, Uncut};
+use std::marker::Sync;
 use std::process::Abort;
 use std::test::Fail;
-use std::thread::join;
+use std::thread::{Threads, join};
 
 // The cells of the next part.
 fn next<'a>(rt: &impl Abort, cutter: &mut Cutter<'a>) -> &'a mut [i32] {
@@ -13,21 +14,25 @@ fn next<'a>(rt: &impl Abort, cutter: &mut Cutter<'a>) -> &'a mut [i32] {
     }
 }
 
-#[test]
-fn parts_have_places(rt: HostRuntime) -> Result<(), Fail> {
-    let layout = Layout::new(rt.alloc(), &[2, 0, 3])?;
-    assert_eq!(rt;
-        (layout.len(), layout.is_empty(), layout.total()),
-        (3, false, 5)
-    );
-    for (i, length, place) in [(0, 2, 0), (1, 0, 2), (2, 3, 2)] {
-        assert!(rt; i < layout.len());
+// A part, its length and its place.
+static PLACES: [(u64, u64, u64); 3] = [(0, 2, 0), (1, 0, 2), (2, 3, 2)];
+
+fn assert_places(rt: &impl Abort, layout: &Layout) {
+    assert!(rt; layout.len() == 3 && !layout.is_empty() && layout.total() == 5);
+    for (i, length, place) in &PLACES {
+        assert!(rt; *i < layout.len());
         assert_eq!(rt;
-            (layout.length(i), layout.place(i)),
-            (length, place),
+            (layout.length(*i), layout.place(*i)),
+            (*length, *place),
             "part {i}"
         );
     }
+}
+
+#[test]
+fn parts_have_places(rt: HostRuntime) -> Result<(), Fail> {
+    let layout = Layout::new(rt.alloc(), &[2, 0, 3])?;
+    assert_places(&rt, &layout);
     Ok(())
 }
 
@@ -45,6 +50,11 @@ fn write_parts(rt: &impl Abort, region: &mut Region, layout: &Layout) {
     first.copy_from_slice(&[1, 2]);
 }
 
+/// The region has these cells.
+pub(crate) fn assert_cells(rt: &impl Abort, region: &mut Region, wanted: &[i32]) {
+    assert_eq!(rt; &*region.cells(), wanted);
+}
+
 // They hold these numbers.
 fn assert_parts(rt: &impl Abort, region: &mut Region, layout: &Layout, parts: [&[i32]; 3]) {
     assert!(rt; region.has_room(layout));
@@ -58,9 +68,9 @@ fn assert_parts(rt: &impl Abort, region: &mut Region, layout: &Layout, parts: [&
 fn parts_lie_one_after_another(rt: HostRuntime) -> Result<(), Fail> {
     let layout = Layout::new(rt.alloc(), &[2, 0, 3])?;
     let mut region = Region::new(rt.alloc(), 5)?;
-    assert_eq!(rt; (region.len(), region.is_empty()), (5, false));
+    assert!(rt; region.len() == 5 && !region.is_empty());
     write_parts(&rt, &mut region, &layout);
-    assert_eq!(rt; &*region.cells(), [1, 2, 3, 4, 5].as_slice());
+    assert_cells(&rt, &mut region, &[1, 2, 3, 4, 5]);
     assert_parts(&rt, &mut region, &layout, [&[1, 2], &[], &[3, 4, 5]]);
     Ok(())
 }
@@ -80,16 +90,21 @@ fn fill(part: Part<'_>, value: i32) {
     }
 }
 
-#[test]
-fn threads_write_parts(rt: HostRuntime) -> Result<(), Fail> {
-    let mut region = Region::new(rt.alloc(), 5)?;
-    let mut uncut = Uncut::of(region.cells());
+// Two threads fill two parts of two cells each, and one cell is left.
+fn fill_by_threads<R: Abort + Threads + Sync>(rt: &R, cells: &mut [i32]) {
+    let mut uncut = Uncut::of(cells);
     assert!(rt; uncut.len() == 5 && !uncut.is_empty());
     let first = uncut.next(2);
     let second = uncut.next(2);
-    let ((), ()) = join(&rt, move || fill(first, 7), move || fill(second, 8));
+    let ((), ()) = join(rt, move || fill(first, 7), move || fill(second, 8));
     let (left, _ended) = uncut.end();
     assert_eq!(rt; left, [0].as_slice());
-    assert_eq!(rt; &*region.cells(), [7, 7, 8, 8, 0].as_slice());
+}
+
+#[test]
+fn threads_write_parts(rt: HostRuntime) -> Result<(), Fail> {
+    let mut region = Region::new(rt.alloc(), 5)?;
+    fill_by_threads(&rt, region.cells());
+    assert_cells(&rt, &mut region, &[7, 7, 8, 8, 0]);
     Ok(())
 }
