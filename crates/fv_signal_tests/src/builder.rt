@@ -1,19 +1,19 @@
-// Graphs that are built.
+// Graphs that are built. What a test puts is put by functions that borrow the builder, so they let go of nothing where memory ends.
 
-ghost use Rattle.std.specs.Prelude.{◌≡◌, [], ◌∷◌, IfOk};
-ghost use Rattle.fv_share.specs.Drafts.{lists_in};
+ghost use Rattle.std.specs.Prelude.{◌≡◌, ◌<◌, [], ◌∷◌, All, IfOk, OnOk, length};
+ghost use Rattle.fv_share.specs.Drafts.{AreClosed, lists_in};
+ghost use Rattle.fv_signal_tests.specs.Empty.{empty};
 
 use fv_num::Op;
 use fv_share::Builder;
-use fv_signal::{Signal, SignalId};
+use fv_signal::{Graph, Signal, SignalId};
 use std::alloc::{AllocError, Global};
 use std::process::Abort;
 use std::test::Fail;
 use test_graphs::graph_over;
 
-#[test]
-fn inputs_are_shared(rt: HostRuntime) -> Result<(), Fail> {
-    let mut builder = Builder::new(rt.alloc());
+// Puts two inputs, and the first one again.
+fn put_inputs(rt: &impl Abort, builder: &mut Builder) -> Result<(), Fail> {
     let input = builder.node(Signal::Input(0))?;
     let again = builder.node(Signal::Input(0))?;
     let other = builder.node(Signal::Input(1))?;
@@ -22,17 +22,32 @@ fn inputs_are_shared(rt: HostRuntime) -> Result<(), Fail> {
 }
 
 #[test]
-fn operations_are_shared(rt: HostRuntime) -> Result<(), Fail> {
+fn inputs_are_shared(rt: HostRuntime) -> Result<(), Fail> {
     let mut builder = Builder::new(rt.alloc());
+    put_inputs(&rt, &mut builder)
+}
+
+// A sum and a product of two inputs, of which the sum is put twice.
+fn put_operations(rt: &impl Abort, builder: &mut Builder) -> Result<[SignalId; 2], AllocError>
+    requires { builder.old ≡ empty }
+    ensures closed { OnOk result (AreClosed builder.new) }
+    ensures there { IfOk result (λ ids. All (λ s. s < length builder.new.signals) ids) }
+{
     let input = builder.node(Signal::Input(0))?;
     let other = builder.node(Signal::Input(1))?;
     let args = [input, other, input, input];
     let sum = builder.node(Signal::Point { op: Op::Add, args })?;
     let same = builder.node(Signal::Point { op: Op::Add, args })?;
     let product = builder.node(Signal::Point { op: Op::Mul, args })?;
-    let outputs = [sum, product];
-    let graph = builder.finish(&outputs)?;
     assert!(rt; sum == same && sum != product, "signals");
+    Ok([sum, product])
+}
+
+#[test]
+fn operations_are_shared(rt: HostRuntime) -> Result<(), Fail> {
+    let mut builder = Builder::new(rt.alloc());
+    let outputs = put_operations(&rt, &mut builder)?;
+    let graph = builder.finish(&outputs)?;
     assert!(rt;
         graph.len() == 4 && graph.outputs() == outputs.as_slice(),
         "graph"
@@ -55,25 +70,41 @@ fn groups_are_apart(rt: HostRuntime) -> Result<(), Fail> {
     Ok(())
 }
 
-#[test]
-fn a_group_is_closed(rt: HostRuntime) -> Result<(), Fail> {
-    let mut builder = Builder::new(rt.alloc());
+// An input, and the only member of a group, which it defines.
+fn put_member(builder: &mut Builder) -> Result<(SignalId, SignalId), AllocError>
+    requires { builder.old ≡ empty }
+    ensures closed { OnOk result (AreClosed builder.new) }
+    ensures there { IfOk result (λ ids. ids.1 < length builder.new.signals) }
+{
     let input = builder.node(Signal::Input(0))?;
     let group = builder.group()?;
     builder.close_group(group, &[input])?;
     let member = builder.node(Signal::Member { group, i: 0 })?;
-    let graph = builder.finish(&[member])?;
+    Ok((input, member))
+}
+
+// The graph has one group, which this signal defines, and this output.
+fn assert_group(rt: &impl Abort, graph: &Graph, definition: SignalId, output: SignalId) {
     assert!(rt;
-        graph.groups() == 1 && graph.group(0) == [input].as_slice(),
+        graph.groups() == 1 && graph.group(0) == [definition].as_slice(),
         "group"
     );
-    assert!(rt; graph.outputs() == [member].as_slice(), "output");
-    Ok(())
+    assert!(rt; graph.outputs() == [output].as_slice(), "output");
 }
 
 #[test]
-fn what_was_put_is_read(rt: HostRuntime) -> Result<(), Fail> {
+fn a_group_is_closed(rt: HostRuntime) -> Result<(), Fail> {
     let mut builder = Builder::new(rt.alloc());
+    let (input, member) = put_member(&mut builder)?;
+    let graph = builder.finish(&[member])?;
+    assert_group(&rt, &graph, input, member);
+    Ok(())
+}
+
+// A delay of a member of a group that waits.
+fn put_late(rt: &impl Abort, builder: &mut Builder) -> Result<(), Fail>
+    requires { builder.old ≡ empty }
+{
     builder.open_groups(3)?;
     let last = builder.node(Signal::Back { group: 2, i: 0 })?;
     let one = builder.node(Signal::Const(1))?;
@@ -85,6 +116,12 @@ fn what_was_put_is_read(rt: HostRuntime) -> Result<(), Fail> {
     let late = builder.node(delay)?;
     assert!(rt; builder.signal(late) == delay && builder.signal(one) == Signal::Const(1));
     Ok(())
+}
+
+#[test]
+fn what_was_put_is_read(rt: HostRuntime) -> Result<(), Fail> {
+    let mut builder = Builder::new(rt.alloc());
+    put_late(&rt, &mut builder)
 }
 
 // So many groups that are opened, and the first one's number.
@@ -139,19 +176,34 @@ fn two_lists(
     Ok(lists)
 }
 
-#[test]
-fn groups_are_closed_together(rt: HostRuntime) -> Result<(), Fail> {
-    let mut builder = Builder::new(rt.alloc());
+// Three groups: one without members, one of an input and a member of the third a sample earlier, and one of the input.
+fn put_groups(alloc: Global, builder: &mut Builder) -> Result<(SignalId, SignalId), AllocError>
+    requires { builder.old ≡ empty }
+    ensures closed { OnOk result (AreClosed builder.new) }
+    ensures there { IfOk result (λ ids. ids.1 < length builder.new.signals) }
+{
     let input = builder.node(Signal::Input(0))?;
     let first = builder.open_groups(3)?;
     let back = builder.node(Signal::Back { group: 2, i: 0 })?;
     builder.close_group(first, &[])?;
-    let members = two_lists(rt.alloc(), &[input, back], &[input])?;
+    let members = two_lists(alloc, &[input, back], &[input])?;
     builder.close_groups(first + 1, members);
-    let graph = builder.finish(&[back])?;
+    Ok((input, back))
+}
+
+// The graph has these groups.
+fn assert_groups(rt: &impl Abort, graph: &Graph, second: &[SignalId], third: &[SignalId]) {
     assert!(rt; graph.groups() == 3);
-    assert!(rt; graph.group(1) == [input, back].as_slice(), "the second");
-    assert!(rt; graph.group(2) == [input].as_slice(), "the third");
+    assert!(rt; graph.group(1) == second, "the second");
+    assert!(rt; graph.group(2) == third, "the third");
+}
+
+#[test]
+fn groups_are_closed_together(rt: HostRuntime) -> Result<(), Fail> {
+    let mut builder = Builder::new(rt.alloc());
+    let (input, back) = put_groups(rt.alloc(), &mut builder)?;
+    let graph = builder.finish(&[back])?;
+    assert_groups(&rt, &graph, &[input, back], &[input]);
     Ok(())
 }
 
@@ -190,16 +242,31 @@ fn equal_lists_are_one_table(rt: HostRuntime) -> Result<(), Fail> {
     Ok(())
 }
 
+// A list, and the tables of a graph behind it.
+fn put_tables(rt: &impl Abort, builder: &mut Builder, graph: &Graph) -> Result<(), AllocError>
+    requires { builder.old ≡ empty }
+    ensures { OnOk result (AreClosed builder.new) }
+{
+    let there = builder.table(&[7])?;
+    let behind = builder.add_tables(graph)?;
+    assert!(rt; there == 0 && behind == 1);
+    Ok(())
+}
+
+// The graph has these tables.
+fn assert_tables(rt: &impl Abort, graph: &Graph) {
+    assert!(rt; graph.tables() == 3);
+    assert!(rt; graph.table(0) == [7].as_slice(), "the first");
+    assert!(rt; graph.table(1) == [7, 8].as_slice(), "the second");
+}
+
 // The tables of a graph come behind those that are there, also where a list is there already.
 #[test]
 fn tables_come_behind_others(rt: HostRuntime) -> Result<(), Fail> {
     let graph = graph_over(rt.alloc(), &[], &[], &[&[7, 8], &[7]], &[])?;
     let mut builder = Builder::new(rt.alloc());
-    let there = builder.table(&[7])?;
-    let behind = builder.add_tables(&graph)?;
+    put_tables(&rt, &mut builder, &graph)?;
     let graph = builder.finish(&[])?;
-    assert!(rt; there == 0 && behind == 1 && graph.tables() == 3);
-    assert!(rt; graph.table(0) == [7].as_slice(), "the first");
-    assert!(rt; graph.table(1) == [7, 8].as_slice(), "the second");
+    assert_tables(&rt, &graph);
     Ok(())
 }
