@@ -54,13 +54,18 @@ fn script_of(alloc: Global, text: &str, controls: &[ControlInfo]) -> Result<Scri
     Ok(script)
 }
 
-/// The numbers with which a program's controls begin, and those that they may have.
-pub(crate) fn numbers_of(alloc: Global, text: &str) -> Result<(Vec<i32>, Vec<Span>), Fail> {
-    let program = program_of(alloc, text)?;
+// The numbers with which a program's controls begin, and those that they may have.
+fn numbers_in(alloc: Global, program: &Program) -> Result<(Vec<i32>, Vec<Span>), Fail> {
     let controls = program.controls.as_slice();
     let initial = initial_of(alloc, controls)?;
     let spans = spans_of(alloc, controls)?;
     Ok((initial, spans))
+}
+
+/// The same of a program's text.
+pub(crate) fn numbers_of(alloc: Global, text: &str) -> Result<(Vec<i32>, Vec<Span>), Fail> {
+    let program = program_of(alloc, text)?;
+    numbers_in(alloc, &program)
 }
 
 /// What a run in blocks by one worker gives.
@@ -123,7 +128,7 @@ fn ready_of(alloc: Global, program: &Program, sizes: &RunSizes) -> Result<Ready,
     Ok(ready)
 }
 
-// A run over a tape in memory, for which all memory was taken.
+// A run over a tape in memory, for which all memory was taken. Nothing ends it early, so what is ready is let go of once.
 fn played_on<R: Threads + Wait + Sync, G: Gate + Sync>(
     rt: &R,
     alloc: Global,
@@ -131,9 +136,9 @@ fn played_on<R: Threads + Wait + Sync, G: Gate + Sync>(
     changes: &[Change],
     sizes: &RunSizes,
     ready: Ready,
-    input: &[i32],
+    memory: &mut Memory<'_>,
     gate: &mut G,
-) -> Result<Answer, Fail>
+) -> Ran
     requires sizes { CanHave sizes.now }
     requires order { NeverFall 0 changes.now }
     requires lawful { AllByRecursion (IsOfControls program.now.controls) changes.now }
@@ -151,27 +156,48 @@ fn played_on<R: Threads + Wait + Sync, G: Gate + Sync>(
         inputs: arity.inputs,
         outputs: arity.outputs,
     };
-    let mut memory = Memory {
-        input,
-        heard: 0,
-        output: vec![in alloc; 0i32; sizes.frames as usize * arity.outputs as usize]?,
-        said: 0,
-    };
-    let ran = match render_tape(
-        rt,
-        alloc,
-        &played,
-        changes,
-        sizes,
-        ready,
-        &mut tape,
-        &mut memory,
-        gate,
+    match render_tape(
+        rt, alloc, &played, changes, sizes, ready, &mut tape, memory, gate,
     ) {
         Ok(ran) => ran,
         // A tape in memory never stops.
         Err(stop) => match stop {},
+    }
+}
+
+// What a run of a program gives. Its memory is made before all that is ready, which is large.
+fn answer_of<R: Threads + Wait + Sync, G: Gate + Sync>(
+    rt: &R,
+    alloc: Global,
+    case: &Case,
+    program: &Program,
+    sizes: &RunSizes,
+    gate: &mut G,
+) -> Result<Answer, Fail>
+    requires { CanHave sizes.now }
+{
+    let arity = program.diagrams.arity(program.root);
+    if case.input.len() != sizes.frames as usize * arity.inputs as usize {
+        return Err("input".into());
+    }
+    let script = script_of(alloc, case.script, program.controls.as_slice())?;
+    let mut memory = Memory {
+        input: case.input,
+        heard: 0,
+        output: vec![in alloc; 0i32; sizes.frames as usize * arity.outputs as usize]?,
+        said: 0,
     };
+    let ready = ready_of(alloc, program, sizes)?;
+    let ran = played_on(
+        rt,
+        alloc,
+        program,
+        script.changes(),
+        sizes,
+        ready,
+        &mut memory,
+        gate,
+    );
     Ok(Answer {
         samples: memory.output,
         ran,
@@ -190,35 +216,19 @@ pub(crate) fn rendered_by<R: Threads + Wait + Sync, G: Gate + Sync>(
 ) -> Result<Answer, Fail> {
     let sizes = sizes_of(case.frames, block, vector, workers)?;
     let program = program_of(alloc, case.program)?;
-    let inputs = program.diagrams.arity(program.root).inputs;
-    if case.input.len() != case.frames as usize * inputs as usize {
-        return Err("input".into());
-    }
-    let script = script_of(alloc, case.script, program.controls.as_slice())?;
-    let ready = ready_of(alloc, &program, &sizes)?;
-    played_on(
-        rt,
-        alloc,
-        &program,
-        script.changes(),
-        &sizes,
-        ready,
-        case.input,
-        gate,
-    )
+    answer_of(rt, alloc, case, &program, &sizes, gate)
 }
 
-/// What the runner of diagrams gives.
-pub(crate) fn stepped(alloc: Global, case: &Case) -> Result<Vec<i32>, Fail> {
-    let program = program_of(alloc, case.program)?;
-    let controls = program.controls.as_slice();
-    let script = script_of(alloc, case.script, controls)?;
-    let initial = initial_of(alloc, controls)?;
+// What the runner of diagrams gives of a program.
+fn steps_of(alloc: Global, case: &Case, program: &Program) -> Result<Vec<i32>, Fail> {
     let arity = program.diagrams.arity(program.root);
     let frames = case.frames as usize;
     if case.input.len() != frames * arity.inputs as usize {
         return Err("input".into());
     }
+    let controls = program.controls.as_slice();
+    let script = script_of(alloc, case.script, controls)?;
+    let initial = initial_of(alloc, controls)?;
     let answer = play_script(
         alloc,
         &program.diagrams,
@@ -229,4 +239,10 @@ pub(crate) fn stepped(alloc: Global, case: &Case) -> Result<Vec<i32>, Fail> {
         frames,
     )?;
     Ok(answer)
+}
+
+/// What the runner of diagrams gives.
+pub(crate) fn stepped(alloc: Global, case: &Case) -> Result<Vec<i32>, Fail> {
+    let program = program_of(alloc, case.program)?;
+    steps_of(alloc, case, &program)
 }

@@ -6,6 +6,8 @@ mod cases;
 #[cfg(test)]
 mod memory;
 #[cfg(test)]
+mod plays;
+#[cfg(test)]
 mod rows;
 #[cfg(test)]
 mod tables;

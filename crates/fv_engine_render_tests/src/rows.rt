@@ -1,10 +1,16 @@
 // Rows of programs.
 
 use crate::cases::{Case, numbers_of, rendered, stepped};
+use crate::plays::{assert_answer, assert_plays};
+use fv_engine_render::Ran;
 use fv_num::Span;
 use fv_outside::{FreeGate, Line, Reads, Recorder, Task};
+use std::alloc::Global;
+use std::marker::Sync;
 use std::process::Abort;
+use std::sync::Wait;
 use std::test::Fail;
+use std::thread::Threads;
 use test_gates::{Counter, block_of};
 
 // An echo three frames later, half as loud each time.
@@ -96,7 +102,7 @@ const WRAPPED: Case = Case {
 };
 
 // How many frames a block and a vector have at most.
-const SIZES: [(u32, u32); 5] = [(1, 1), (7, 7), (7, 3), (512, 32), (4096, 64)];
+static SIZES: [(u32, u32); 5] = [(1, 1), (7, 7), (7, 3), (512, 32), (4096, 64)];
 
 static CASES: [Case; 8] = [ECHO, DIFFERENCE, FADER, NOISE, WAVES, CHOSEN, LOOPER, SUMS];
 
@@ -105,14 +111,7 @@ fn blocks_give_what_the_runner_gives(rt: HostRuntime) -> Result<(), Fail> {
     let alloc = rt.alloc();
     for case in &CASES {
         let wanted = stepped(alloc, case)?;
-        for (block, vector) in &SIZES {
-            let answer = rendered(&rt, alloc, case, *block, *vector, &mut FreeGate)?;
-            assert!(rt;
-                answer.samples.as_slice() == wanted.as_slice(),
-                "{} {block} {vector}",
-                case.program
-            );
-        }
+        assert_plays(&rt, alloc, case, &SIZES, 1, (wanted.as_slice(), None))?;
     }
     Ok(())
 }
@@ -121,8 +120,12 @@ fn blocks_give_what_the_runner_gives(rt: HostRuntime) -> Result<(), Fail> {
 fn an_echo(rt: HostRuntime) -> Result<(), Fail> {
     let answer = rendered(&rt, rt.alloc(), &ECHO, 7, 7, &mut FreeGate)?;
     let wanted = [80, 0, 0, 33, 3, 0, 16, 1, 12, 8, 0, 11, 4];
-    assert_eq!(rt; answer.samples.as_slice(), wanted.as_slice());
-    assert_eq!(rt; answer.ran.blocks, 2);
+    let ran = Ran {
+        blocks: 2,
+        loops: 1,
+        loop_runs: 2,
+    };
+    assert_answer(&rt, &answer, &wanted, ran);
     Ok(())
 }
 
@@ -136,15 +139,8 @@ static SIMPLER: [(&Case, &[i32], u64); 3] = [
 #[test]
 fn graphs_are_simpler(rt: HostRuntime) -> Result<(), Fail> {
     for (case, samples, loops) in &SIMPLER {
-        for (block, vector) in &SIZES {
-            let answer = rendered(&rt, rt.alloc(), case, *block, *vector, &mut FreeGate)?;
-            assert_eq!(rt;
-                (answer.samples.as_slice(), answer.ran.loops),
-                (*samples, *loops),
-                "{} {block} {vector}",
-                case.program
-            );
-        }
+        let wanted = (*samples, Some(*loops));
+        assert_plays(&rt, rt.alloc(), case, &SIZES, 1, wanted)?;
     }
     Ok(())
 }
@@ -159,17 +155,20 @@ static TABLES: [(&Case, &[i32]); 3] = [
 #[test]
 fn tables_over_blocks(rt: HostRuntime) -> Result<(), Fail> {
     for (case, samples) in &TABLES {
-        for (block, vector) in &SIZES {
-            let answer = rendered(&rt, rt.alloc(), case, *block, *vector, &mut FreeGate)?;
-            assert_eq!(rt;
-                answer.samples.as_slice(),
-                *samples,
-                "{} {block} {vector}",
-                case.program
-            );
-        }
+        assert_plays(&rt, rt.alloc(), case, &SIZES, 1, (*samples, None))?;
     }
     Ok(())
+}
+
+// So many blocks were told, each with one vector of one loop.
+fn assert_blocks(rt: &impl Abort, recorder: &Recorder, blocks: u32) {
+    assert_eq!(rt; recorder.calls(), Some(blocks));
+    for i in 0..blocks {
+        let Some((loops, vectors, _, _)) = block_of(recorder, i) else {
+            panic!(rt; "no block");
+        };
+        assert_eq!(rt; (loops, vectors), (1, 1));
+    }
 }
 
 // A change cuts a block: frames 0 and 1, frame 2, frames 3 and 4.
@@ -177,39 +176,25 @@ fn tables_over_blocks(rt: HostRuntime) -> Result<(), Fail> {
 fn changes_cut_blocks(rt: HostRuntime) -> Result<(), Fail> {
     let mut recorder = Recorder::new(rt.alloc(), 3, 100)?;
     let answer = rendered(&rt, rt.alloc(), &FADER, 4, 4, &mut recorder)?;
-    assert_eq!(rt; answer.samples.as_slice(), [5, 5, 15, 0, 0].as_slice());
-    assert_eq!(rt; answer.ran.blocks, 3);
-    assert_eq!(rt; recorder.calls(), Some(3));
-    for i in 0..3u32 {
-        let Some((loops, vectors, _, _)) = block_of(&recorder, i) else {
-            panic!(rt; "no block");
-        };
-        assert_eq!(rt; (loops, vectors), (answer.ran.loops, 1));
-    }
+    let ran = Ran {
+        blocks: 3,
+        loops: 1,
+        loop_runs: 3,
+    };
+    assert_answer(&rt, &answer, &[5, 5, 15, 0, 0], ran);
+    assert_blocks(&rt, &recorder, 3);
     Ok(())
 }
 
-// One entry, of two loops, of which the second reads the first, and the first has finished before the second starts.
-#[test]
-fn loops_run_after_what_they_read(rt: HostRuntime) -> Result<(), Fail> {
-    let mut recorder = Recorder::new(rt.alloc(), 1, 2)?;
-    let answer = rendered(&rt, rt.alloc(), &DIFFERENCE, 512, 32, &mut recorder)?;
-    assert_eq!(rt; answer.samples.as_slice(), [5, 2, -3].as_slice());
-    assert_eq!(rt;
-        (answer.ran.blocks, answer.ran.loops, answer.ran.loop_runs),
-        (1, 2, 2)
-    );
-    assert_eq!(rt; recorder.calls(), Some(1));
-    let Some((loops, vectors, reads, lines)) = block_of(&recorder, 0) else {
-        panic!(rt; "no block");
-    };
-    assert_eq!(rt; (loops, vectors), (2, 1));
-    let read = Reads {
-        reader: 1,
-        source: 0,
-    };
-    assert_eq!(rt; reads, [read].as_slice());
-    let first = Line {
+// The second loop reads the first.
+static READS: [Reads; 1] = [Reads {
+    reader: 1,
+    source: 0,
+}];
+
+// The first loop has finished before the second starts.
+static LINES: [Line; 2] = [
+    Line {
         task: Task {
             loop_no: 0,
             vector: 0,
@@ -217,8 +202,8 @@ fn loops_run_after_what_they_read(rt: HostRuntime) -> Result<(), Fail> {
         worker: 0,
         start: 0,
         finish: 1,
-    };
-    let second = Line {
+    },
+    Line {
         task: Task {
             loop_no: 1,
             vector: 0,
@@ -226,8 +211,31 @@ fn loops_run_after_what_they_read(rt: HostRuntime) -> Result<(), Fail> {
         worker: 0,
         start: 2,
         finish: 3,
+    },
+];
+
+// One block was told, of two loops, of which the second ran after the first, which it reads.
+fn assert_ordered(rt: &impl Abort, recorder: &Recorder) {
+    assert_eq!(rt; recorder.calls(), Some(1));
+    let Some((loops, vectors, reads, lines)) = block_of(recorder, 0) else {
+        panic!(rt; "no block");
     };
-    assert_eq!(rt; lines, [first, second].as_slice());
+    assert!(rt; loops == 2 && vectors == 1);
+    assert_eq!(rt; reads, READS.as_slice());
+    assert_eq!(rt; lines, LINES.as_slice());
+}
+
+#[test]
+fn loops_run_after_what_they_read(rt: HostRuntime) -> Result<(), Fail> {
+    let mut recorder = Recorder::new(rt.alloc(), 1, 2)?;
+    let answer = rendered(&rt, rt.alloc(), &DIFFERENCE, 512, 32, &mut recorder)?;
+    let ran = Ran {
+        blocks: 1,
+        loops: 2,
+        loop_runs: 2,
+    };
+    assert_answer(&rt, &answer, &[5, 2, -3], ran);
+    assert_ordered(&rt, &recorder);
     Ok(())
 }
 
@@ -235,25 +243,43 @@ fn loops_run_after_what_they_read(rt: HostRuntime) -> Result<(), Fail> {
 #[test]
 fn a_gate_without_room(rt: HostRuntime) -> Result<(), Fail> {
     let mut recorder = Recorder::new(rt.alloc(), 1, 1)?;
-    let answer = rendered(&rt, rt.alloc(), &DIFFERENCE, 512, 32, &mut recorder)?;
-    assert_eq!(rt; answer.ran.blocks, 1);
-    assert_eq!(rt; recorder.calls(), None);
+    let ran = rendered(&rt, rt.alloc(), &DIFFERENCE, 512, 32, &mut recorder)?.ran;
+    assert!(rt; ran.blocks == 1 && recorder.calls().is_none());
     Ok(())
 }
 
 static COUNTED: [Case; 4] = [ECHO, DIFFERENCE, FADER, NOISE];
+
+// How many runs of loops the gate saw, and how many were counted.
+fn runs_of<R: Threads + Wait + Sync>(
+    rt: &R,
+    alloc: Global,
+    case: &Case,
+    block: u32,
+    vector: u32,
+) -> Result<(u128, u128), Fail> {
+    let mut counter = Counter::new();
+    let answer = rendered(rt, alloc, case, block, vector, &mut counter)?;
+    Ok((u128::from(counter.tasks()), answer.ran.loop_runs))
+}
 
 // The gate sees each loop before it runs, as often as is counted.
 #[test]
 fn each_run_is_seen(rt: HostRuntime) -> Result<(), Fail> {
     for case in &COUNTED {
         for (block, vector) in &SIZES {
-            let mut counter = Counter::new();
-            let answer = rendered(&rt, rt.alloc(), case, *block, *vector, &mut counter)?;
-            assert_eq!(rt; u128::from(counter.tasks()), answer.ran.loop_runs);
+            let (seen, counted) = runs_of(&rt, rt.alloc(), case, *block, *vector)?;
+            assert_eq!(rt; seen, counted);
         }
     }
     Ok(())
+}
+
+// Those of the slider and of the button.
+fn assert_numbers(rt: &impl Abort, initial: &[i32], spans: &[Span]) {
+    assert_eq!(rt; initial, [4, 0].as_slice());
+    let wanted = [Span { lo: -3, hi: 10 }, Span { lo: 0, hi: 1 }];
+    assert_eq!(rt; spans, wanted.as_slice());
 }
 
 // A slider begins where it says and stays between its bounds; a button is 0 or 1.
@@ -261,9 +287,7 @@ fn each_run_is_seen(rt: HostRuntime) -> Result<(), Fail> {
 fn numbers_of_controls(rt: HostRuntime) -> Result<(), Fail> {
     let text = "process = hslider(\"a\", 4, -3, 10, 1), button(\"b\");";
     let (initial, spans) = numbers_of(rt.alloc(), text)?;
-    assert_eq!(rt; initial.as_slice(), [4, 0].as_slice());
-    let wanted = [Span { lo: -3, hi: 10 }, Span { lo: 0, hi: 1 }];
-    assert_eq!(rt; spans.as_slice(), wanted.as_slice());
+    assert_numbers(&rt, &initial, &spans);
     Ok(())
 }
 
@@ -276,10 +300,11 @@ fn no_frames(rt: HostRuntime) -> Result<(), Fail> {
         ..ECHO
     };
     let answer = rendered(&rt, rt.alloc(), &case, 512, 32, &mut FreeGate)?;
-    assert!(rt; answer.samples.is_empty());
-    assert_eq!(rt;
-        (answer.ran.blocks, answer.ran.loops, answer.ran.loop_runs),
-        (0, 0, 0)
-    );
+    let ran = Ran {
+        blocks: 0,
+        loops: 0,
+        loop_runs: 0,
+    };
+    assert_answer(&rt, &answer, &[], ran);
     Ok(())
 }

@@ -1,7 +1,7 @@
 // Programs with waveforms and tables.
 
-use crate::cases::{Case, rendered_by};
-use fv_outside::FreeGate;
+use crate::cases::Case;
+use crate::plays::assert_plays;
 use std::alloc::Global;
 use std::marker::Sync;
 use std::process::Abort;
@@ -11,6 +11,9 @@ use std::thread::Threads;
 
 /// A program, its input, how many frames, and what it gives.
 type Row = (&'static str, &'static [i32], u32, &'static [i32]);
+
+// How many frames a block and a vector have at most.
+static SIZES: [(u32, u32); 2] = [(1, 1), (512, 32)];
 
 // Each program gives its samples, whatever the sizes and however many workers.
 fn assert_all_sound<R: Abort + Threads + Wait + Sync>(
@@ -25,13 +28,8 @@ fn assert_all_sound<R: Abort + Threads + Wait + Sync>(
             input,
             frames: *frames,
         };
-        for (block, vector, workers) in [(1, 1, 1), (512, 32, 1), (1, 1, 2), (512, 32, 2)] {
-            let answer = rendered_by(rt, alloc, &case, block, vector, workers, &mut FreeGate)?;
-            assert_eq!(rt;
-                answer.samples.as_slice(),
-                *wanted,
-                "{program} {block} {vector} {workers}"
-            );
+        for workers in [1, 2] {
+            assert_plays(rt, alloc, &case, &SIZES, workers, (wanted, None))?;
         }
     }
     Ok(())

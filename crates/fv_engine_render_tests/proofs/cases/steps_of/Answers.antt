@@ -3,7 +3,7 @@ use Rattle.std.proofs.lemmas.List.{length-map}
 use Rattle.std.specs.List.{AllByRecursion}
 use Rattle.fv_diagram.specs.declared.control.ControlInfo.{ControlInfo}
 use Rattle.fv_control.specs.declared.script.Change.{Change}
-use Rattle.fv_engine_render_tests.proofs.cases.stepped.Goals as goal
+use Rattle.fv_engine_render_tests.proofs.cases.steps_of.Goals as goal
 
 pub play_script-requires-clause-named : goal.play_script-requires-clause-named
 play_script-requires-clause-named c =
