@@ -1,15 +1,16 @@
 // Samples that are read, and files that are written.
 
-ghost use Rattle.std.specs.Prelude.{◌≡◌, true};
+ghost use Rattle.std.specs.Prelude.{◌≡◌, ◌≤◌, true};
 ghost use Rattle.fv_wav.specs.Words.{is_sample_width};
 
 use crate::examples::{EXTENSIBLE, PLAIN};
+use crate::heads::{EXTENSIBLE_HEAD, assert_same, head_on};
 use fv_outside::{Desk, MemoryDesk, Role};
 use fv_wav::{
-    Head, WaveRefusal, WriteRefusal, data_length, read_frames, read_head, write_frames, write_head,
-    write_pad,
+    WaveRefusal, WriteRefusal, data_length, read_frames, write_frames, write_head, write_pad,
 };
 use std::alloc::Global;
+use std::process::Abort;
 use std::test::Fail;
 
 /// The bytes of two samples at this width.
@@ -44,24 +45,6 @@ fn samples_are_written(rt: HostRuntime) -> Result<(), Fail> {
     Ok(())
 }
 
-#[test]
-fn a_file_is_written(rt: HostRuntime) -> Result<(), Fail> {
-    let mut desk = MemoryDesk::new(rt.alloc());
-    desk.room(Role::Output, 50)?;
-    assert_eq!(rt; desk.begin_write(Role::Output, "file"), Ok(()));
-    assert_eq!(rt; write_head(&mut desk, 1, 44100, 16, 6), Ok(()));
-    let mut bytes = [0; 6];
-    assert_eq!(rt;
-        write_frames(&mut desk, 16, &[1, -2, 3], &mut bytes),
-        Ok(())
-    );
-    assert_eq!(rt; write_pad(&mut desk, 6), Ok(()));
-    assert!(rt; desk.written(Role::Output) == PLAIN.as_slice());
-    let full = WriteRefusal::WriteFault { role: Role::Output };
-    assert_eq!(rt; write_frames(&mut desk, 16, &[4], &mut bytes), Err(full));
-    Ok(())
-}
-
 // The plain file, on a desk that may fail.
 fn write_plain(desk: &mut MemoryDesk) -> Result<(), WriteRefusal> {
     if desk.begin_write(Role::Output, "file").is_err() {
@@ -71,6 +54,23 @@ fn write_plain(desk: &mut MemoryDesk) -> Result<(), WriteRefusal> {
     write_head(desk, 1, 44100, 16, 6)?;
     write_frames(desk, 16, &[1, -2, 3], &mut bytes)?;
     write_pad(desk, 6)
+}
+
+// The plain file fits on a desk, and nothing more.
+fn assert_fits(rt: &impl Abort, desk: &mut MemoryDesk) {
+    assert_eq!(rt; write_plain(desk), Ok(()));
+    assert!(rt; desk.written(Role::Output) == PLAIN.as_slice());
+    let full = WriteRefusal::WriteFault { role: Role::Output };
+    let mut bytes = [0; 6];
+    assert_eq!(rt; write_frames(desk, 16, &[4], &mut bytes), Err(full));
+}
+
+#[test]
+fn a_file_is_written(rt: HostRuntime) -> Result<(), Fail> {
+    let mut desk = MemoryDesk::new(rt.alloc());
+    desk.room(Role::Output, 50)?;
+    assert_fits(&rt, &mut desk);
+    Ok(())
 }
 
 /// What is answered where the call of Output with this number fails, and how many bytes were written.
@@ -118,30 +118,27 @@ fn lengths(rt: HostRuntime) {
     }
 }
 
+// A frame of the extensible file behind a place is read, or refused so.
+fn read_one(rt: &impl Abort, desk: &mut MemoryDesk, place: u64, wanted: Result<i32, WaveRefusal>)
+    requires low { 80 ≤ place }
+    requires high { place ≤ 83 }
+{
+    let mut bytes = [0; 8];
+    let mut one = [0; 1];
+    let found = match read_frames(desk, &EXTENSIBLE_HEAD, place, &mut bytes, &mut one) {
+        Ok(()) => Ok(one[0]),
+        Err(refusal) => Err(refusal),
+    };
+    assert_eq!(rt; found, wanted);
+}
+
 #[test]
 fn a_cut_file_is_read_to_its_last_whole_frame(rt: HostRuntime) -> Result<(), Fail> {
     let mut desk = MemoryDesk::new(rt.alloc());
-    desk.put("cut", &EXTENSIBLE[..85])?;
-    assert_eq!(rt; desk.begin_read(Role::Input, "cut"), Ok(()));
-    let head = Head {
-        channels: 1,
-        rate: 44100,
-        bits: 24,
-        data_bytes: 6,
-        place: 80,
-    };
-    assert_eq!(rt; read_head(&mut desk), Ok(head));
-    let mut bytes = [0; 8];
-    let mut one = [0; 1];
-    assert_eq!(rt;
-        read_frames(&mut desk, &head, 80, &mut bytes, &mut one),
-        Ok(())
-    );
-    assert_eq!(rt; one, [1]);
+    desk.put("file", &EXTENSIBLE[..85])?;
+    assert_same(&rt, head_on(&mut desk), Ok(EXTENSIBLE_HEAD), 0);
+    read_one(&rt, &mut desk, 80, Ok(1));
     let cut = WaveRefusal::WaveTruncated { place: 85 };
-    assert_eq!(rt;
-        read_frames(&mut desk, &head, 83, &mut bytes, &mut one),
-        Err(cut)
-    );
+    read_one(&rt, &mut desk, 83, Err(cut));
     Ok(())
 }

@@ -1,9 +1,11 @@
 // The heads of files, or why they have none.
 
+ghost use Rattle.std.specs.Prelude.{◌≤◌};
+
 use crate::examples::{EXTENSIBLE, PLAIN};
 use fv_outside::{Desk, MemoryDesk, Role};
 use fv_wav::{Head, WaveRefusal, read_head};
-use std::alloc::Global;
+use std::alloc::{AllocError, Global};
 use std::process::Abort;
 use std::test::Fail;
 
@@ -11,7 +13,12 @@ use std::test::Fail;
 type Change = (usize, u8);
 
 /// A file with one byte changed, and cut at a length.
-fn changed(alloc: Global, file: &[u8], change: Change, length: usize) -> Result<Vec<u8>, Fail> {
+fn changed(
+    alloc: Global,
+    file: &[u8],
+    change: Change,
+    length: usize,
+) -> Result<Vec<u8>, AllocError> {
     let mut bytes = Vec::from_slice(alloc, file)?;
     if let Some(byte) = bytes.get_mut(change.0) {
         *byte = change.1;
@@ -20,14 +27,40 @@ fn changed(alloc: Global, file: &[u8], change: Change, length: usize) -> Result<
     Ok(bytes)
 }
 
+/// The head of the file on a desk.
+pub fn head_on(desk: &mut MemoryDesk) -> Result<Head, WaveRefusal> {
+    if desk.begin_read(Role::Input, "file").is_err() {
+        return Err(WaveRefusal::ReadFault { role: Role::Input });
+    }
+    read_head(desk)
+}
+
 /// The head of a file of these bytes.
-fn head_of(alloc: Global, bytes: &[u8]) -> Result<Result<Head, WaveRefusal>, Fail> {
+fn head_of(alloc: Global, bytes: &[u8]) -> Result<Result<Head, WaveRefusal>, AllocError> {
     let mut desk = MemoryDesk::new(alloc);
     desk.put("file", bytes)?;
-    match desk.begin_read(Role::Input, "file") {
-        Ok(()) => Ok(read_head(&mut desk)),
-        Err(_failed) => Ok(Err(WaveRefusal::ReadFault { role: Role::Input })),
-    }
+    Ok(head_on(&mut desk))
+}
+
+/// What was found is what is wanted.
+pub fn assert_same(
+    rt: &impl Abort,
+    found: Result<Head, WaveRefusal>,
+    wanted: Result<Head, WaveRefusal>,
+    row: u32,
+) {
+    assert_eq!(rt; found, wanted, "{row}");
+}
+
+/// A file of these bytes has this head, or is refused so.
+fn assert_head(
+    rt: &impl Abort,
+    alloc: Global,
+    bytes: &[u8],
+    wanted: Result<Head, WaveRefusal>,
+) -> Result<(), Fail> {
+    assert_eq!(rt; head_of(alloc, bytes)?, wanted);
+    Ok(())
 }
 
 /// The file with each change, cut at its length, is refused so.
@@ -39,7 +72,7 @@ fn expect_refusals(
 ) -> Result<(), Fail> {
     for (change, length, refusal) in rows {
         let bytes = changed(alloc, file, *change, *length)?;
-        assert_eq!(rt; head_of(alloc, &bytes)?, Err(*refusal));
+        assert_head(rt, alloc, &bytes, Err(*refusal))?;
     }
     Ok(())
 }
@@ -52,7 +85,8 @@ const PLAIN_HEAD: Head = Head {
     place: 44,
 };
 
-const EXTENSIBLE_HEAD: Head = Head {
+/// The head of the extensible file.
+pub const EXTENSIBLE_HEAD: Head = Head {
     channels: 1,
     rate: 44100,
     bits: 24,
@@ -63,9 +97,8 @@ const EXTENSIBLE_HEAD: Head = Head {
 #[test]
 fn heads(rt: HostRuntime) -> Result<(), Fail> {
     let alloc = rt.alloc();
-    assert_eq!(rt; head_of(alloc, &PLAIN)?, Ok(PLAIN_HEAD));
-    assert_eq!(rt; head_of(alloc, &EXTENSIBLE)?, Ok(EXTENSIBLE_HEAD));
-    Ok(())
+    assert_head(&rt, alloc, &PLAIN, Ok(PLAIN_HEAD))?;
+    assert_head(&rt, alloc, &EXTENSIBLE, Ok(EXTENSIBLE_HEAD))
 }
 
 // Changes of the plain file, the lengths at which it is cut, and what refuses it.
@@ -103,33 +136,45 @@ fn extensible_files_that_break_a_rule(rt: HostRuntime) -> Result<(), Fail> {
     expect_refusals(&rt, rt.alloc(), &EXTENSIBLE, &EXTENSIBLE_REFUSALS)
 }
 
-/// The head of a file of these pieces.
-fn head_of_both(
-    alloc: Global,
-    front: &[u8],
-    back: &[u8],
-) -> Result<Result<Head, WaveRefusal>, Fail> {
+/// A file of these pieces.
+fn joined(alloc: Global, front: &[u8], back: &[u8]) -> Result<Vec<u8>, AllocError> {
     let mut bytes = Vec::from_slice(alloc, front)?;
     bytes.extend_from_slice(back)?;
-    head_of(alloc, &bytes)
+    Ok(bytes)
 }
+
+// How many bytes of the plain file stand in front, those behind them, and what refuses both.
+static MISPLACED: [(usize, &[u8], WaveRefusal); 4] = [
+    (
+        12,
+        b"data\x06\0\0\0\x01\0\xfe\xff\x03\0",
+        WaveRefusal::WaveFormat { place: 12 },
+    ),
+    (36, b"fmt ", WaveRefusal::WaveFormat { place: 36 }),
+    (
+        40,
+        b"\xff\xff\xff\xff",
+        WaveRefusal::WaveFormat { place: 40 },
+    ),
+    (
+        36,
+        b"JUNK\xff\xff\xff\xff",
+        WaveRefusal::WaveTruncated { place: 44 },
+    ),
+];
 
 #[test]
 fn chunks_where_none_may_stand(rt: HostRuntime) -> Result<(), Fail> {
-    let alloc = rt.alloc();
-    let early = head_of_both(alloc, &PLAIN[..12], &PLAIN[36..])?;
-    assert_eq!(rt; early, Err(WaveRefusal::WaveFormat { place: 12 }));
-    let second = head_of_both(alloc, &PLAIN[..36], b"fmt ")?;
-    assert_eq!(rt; second, Err(WaveRefusal::WaveFormat { place: 36 }));
-    let unknown = head_of_both(alloc, &PLAIN[..40], b"\xff\xff\xff\xff")?;
-    assert_eq!(rt; unknown, Err(WaveRefusal::WaveFormat { place: 40 }));
-    let long = head_of_both(alloc, &PLAIN[..36], b"JUNK\xff\xff\xff\xff")?;
-    assert_eq!(rt; long, Err(WaveRefusal::WaveTruncated { place: 44 }));
+    for (length, back, refusal) in &MISPLACED {
+        assert!(rt; *length <= PLAIN.len());
+        let bytes = joined(rt.alloc(), &PLAIN[..*length], back)?;
+        assert_head(&rt, rt.alloc(), &bytes, Err(*refusal))?;
+    }
     Ok(())
 }
 
 /// The plain file with so many empty chunks before its samples.
-fn with_chunks(alloc: Global, count: usize) -> Result<Vec<u8>, Fail> {
+fn with_chunks(alloc: Global, count: usize) -> Result<Vec<u8>, AllocError> {
     let mut bytes = Vec::new(alloc);
     bytes.extend_from_slice(&PLAIN[..36])?;
     for _ in 0..count {
@@ -139,53 +184,64 @@ fn with_chunks(alloc: Global, count: usize) -> Result<Vec<u8>, Fail> {
     Ok(bytes)
 }
 
+/// It has this head, or is refused so.
+fn assert_chunks(
+    rt: &impl Abort,
+    alloc: Global,
+    count: usize,
+    wanted: Result<Head, WaveRefusal>,
+) -> Result<(), Fail> {
+    let bytes = with_chunks(alloc, count)?;
+    assert_head(rt, alloc, &bytes, wanted)
+}
+
 #[test]
 fn chunks(rt: HostRuntime) -> Result<(), Fail> {
-    let alloc = rt.alloc();
-    let most = with_chunks(alloc, 4095)?;
     let head = Head {
         place: 32804,
         ..PLAIN_HEAD
     };
-    assert_eq!(rt; head_of(alloc, &most)?, Ok(head));
-    let more = with_chunks(alloc, 4096)?;
-    assert_eq!(rt;
-        head_of(alloc, &more)?,
-        Err(WaveRefusal::WaveChunks { place: 32796 })
-    );
-    Ok(())
+    assert_chunks(&rt, rt.alloc(), 4095, Ok(head))?;
+    let more = WaveRefusal::WaveChunks { place: 32796 };
+    assert_chunks(&rt, rt.alloc(), 4096, Err(more))
 }
 
 /// The head of the plain file, where the call of Input with this number fails.
-fn faulty(alloc: Global, call: u32) -> Result<Result<Head, WaveRefusal>, Fail> {
+fn faulty(alloc: Global, call: u32) -> Result<Result<Head, WaveRefusal>, AllocError> {
     let mut desk = MemoryDesk::new(alloc);
     desk.put("file", &PLAIN)?;
     desk.fail(Role::Input, call)?;
-    match desk.begin_read(Role::Input, "file") {
-        Ok(()) => Ok(read_head(&mut desk)),
-        Err(_failed) => Ok(Err(WaveRefusal::ReadFault { role: Role::Input })),
-    }
+    Ok(head_on(&mut desk))
 }
 
 #[test]
 fn faults(rt: HostRuntime) -> Result<(), Fail> {
-    let alloc = rt.alloc();
     let fault = WaveRefusal::ReadFault { role: Role::Input };
-    for call in 0..12 {
-        assert_eq!(rt; faulty(alloc, call)?, Err(fault));
+    for call in 0..13 {
+        let wanted = if call < 12 {
+            Err(fault)
+        } else {
+            Ok(PLAIN_HEAD)
+        };
+        assert_same(&rt, faulty(rt.alloc(), call)?, wanted, call);
     }
-    assert_eq!(rt; faulty(alloc, 12)?, Ok(PLAIN_HEAD));
     Ok(())
+}
+
+/// The head of the extensible file, where its bytes come in pieces of a size.
+fn in_pieces(alloc: Global, size: u32) -> Result<Result<Head, WaveRefusal>, AllocError>
+    requires { 1 ≤ size }
+{
+    let mut desk = MemoryDesk::new(alloc);
+    desk.put("file", &EXTENSIBLE)?;
+    desk.pieces(Role::Input, size);
+    Ok(head_on(&mut desk))
 }
 
 #[test]
 fn short_reads(rt: HostRuntime) -> Result<(), Fail> {
     for size in 1..4 {
-        let mut desk = MemoryDesk::new(rt.alloc());
-        desk.put("file", &EXTENSIBLE)?;
-        desk.pieces(Role::Input, size);
-        assert_eq!(rt; desk.begin_read(Role::Input, "file"), Ok(()));
-        assert_eq!(rt; read_head(&mut desk), Ok(EXTENSIBLE_HEAD));
+        assert_same(&rt, in_pieces(rt.alloc(), size)?, Ok(EXTENSIBLE_HEAD), size);
     }
     Ok(())
 }
