@@ -14,60 +14,80 @@ fn input_of(alloc: Global, bytes: &[u8]) -> Result<MemoryDesk, Fail> {
     Ok(desk)
 }
 
-#[test]
-fn four_bytes_stay_left(rt: HostRuntime) -> Result<(), Fail> {
-    let mut desk = input_of(rt.alloc(), b".snd!")?;
-    let mut ahead = Ahead::new(&mut desk);
-    assert_eq!(rt; ahead.begin_read(Role::Input, "file"), Ok(()));
-    for _ in 0..2 {
-        assert_eq!(rt; ahead.peek(), Ok(Some(*b".snd")));
-    }
+// What two looks at the input of a desk answer, how many bytes are then filled, and they.
+type Left = (Looked, Looked, usize, [u8; 6]);
+
+// What is left on a desk behind two looks.
+fn left_behind_looks(desk: &mut MemoryDesk) -> Left {
+    let mut ahead = Ahead::new(desk);
     let mut all = [0; 6];
-    assert_eq!(rt; fill(&mut ahead, Role::Input, &mut all), Ok(5));
-    assert_eq!(rt; all, *b".snd!\0");
-    Ok(())
+    if ahead.begin_read(Role::Input, "file").is_err() {
+        return (Err(Failed), Err(Failed), 0, all);
+    }
+    let first = ahead.peek();
+    let second = ahead.peek();
+    let count = fill(&mut ahead, Role::Input, &mut all).unwrap_or(99);
+    (first, second, count, all)
 }
+
+// Files, and what is left of each: all of its bytes.
+static LEFT: [(&[u8], Left); 2] = [
+    (
+        b".snd!",
+        (Ok(Some(*b".snd")), Ok(Some(*b".snd")), 5, *b".snd!\0"),
+    ),
+    (b"abc", (Ok(None), Ok(None), 3, *b"abc\0\0\0")),
+];
 
 #[test]
-fn three_bytes_are_too_few(rt: HostRuntime) -> Result<(), Fail> {
-    let mut desk = input_of(rt.alloc(), b"abc")?;
-    let mut ahead = Ahead::new(&mut desk);
-    assert_eq!(rt; ahead.begin_read(Role::Input, "file"), Ok(()));
-    assert_eq!(rt; ahead.peek(), Ok(None));
-    let mut all = [0; 4];
-    assert_eq!(rt; fill(&mut ahead, Role::Input, &mut all), Ok(3));
-    assert_eq!(rt; all, *b"abc\0");
+fn bytes_stay_left_behind_a_look(rt: HostRuntime) -> Result<(), Fail> {
+    for (file, left) in &LEFT {
+        let mut desk = input_of(rt.alloc(), file)?;
+        assert_eq!(rt; left_behind_looks(&mut desk), *left);
+    }
     Ok(())
 }
 
-/// The bytes of the file behind a look, read so many at a time from pieces of a size.
-fn read_by(alloc: Global, size: usize, piece: u32) -> Result<Vec<u8>, Fail>
+/// The bytes of a desk's input behind a look, read so many at a time, and how many they are.
+fn read_all(desk: &mut MemoryDesk, size: usize) -> (usize, [u8; 16])
+    requires size { 1 ≤ size }
+    requires few { size ≤ 8 }
+{
+    let mut ahead = Ahead::new(desk);
+    let mut bytes = [0; 16];
+    let mut count = 0;
+    if ahead.begin_read(Role::Input, "file").is_err() || ahead.peek().is_err() {
+        return (count, bytes);
+    }
+    for _ in 0..12 {
+        if count <= 16 - size {
+            let part = &mut bytes[count..count + size];
+            count += fill(&mut ahead, Role::Input, part).unwrap_or(0);
+        }
+    }
+    (count, bytes)
+}
+
+/// The same of the file of ten digits, whose bytes come in pieces of a size.
+fn read_by(alloc: Global, size: usize, piece: u32) -> Result<(usize, [u8; 16]), Fail>
     requires size { 1 ≤ size }
     requires few { size ≤ 8 }
     requires piece { 1 ≤ piece }
 {
     let mut desk = input_of(alloc, b"0123456789")?;
     desk.pieces(Role::Input, piece);
-    let mut ahead = Ahead::new(&mut desk);
-    let mut bytes = Vec::new(alloc);
-    if ahead.begin_read(Role::Input, "file").is_err() || ahead.peek().is_err() {
-        return Ok(bytes);
-    }
-    let mut part = [0; 8];
-    for _ in 0..12 {
-        if let Ok(n) = fill(&mut ahead, Role::Input, &mut part[..size]) {
-            bytes.extend_from_slice(&part[..n])?;
-        }
-    }
-    Ok(bytes)
+    Ok(read_all(&mut desk, size))
 }
 
 #[test]
 fn reads_behind_a_look(rt: HostRuntime) -> Result<(), Fail> {
     for size in 1..7 {
         for piece in 1..6 {
-            let bytes = read_by(rt.alloc(), size, piece)?;
-            assert!(rt; bytes.as_slice() == b"0123456789".as_slice());
+            let (count, bytes) = read_by(rt.alloc(), size, piece)?;
+            assert!(rt;
+                count == 10 && bytes.starts_with(b"0123456789"),
+                "{size} {piece}"
+            );
         }
     }
     Ok(())
@@ -77,12 +97,17 @@ fn reads_behind_a_look(rt: HostRuntime) -> Result<(), Fail> {
 fn faulty(alloc: Global, call: u32) -> Result<(Looked, Taken, Taken), Fail> {
     let mut desk = input_of(alloc, b"0123456789")?;
     desk.fail(Role::Input, call)?;
-    let mut ahead = Ahead::new(&mut desk);
+    Ok(look_and_take(&mut desk))
+}
+
+/// The same on a desk.
+fn look_and_take(desk: &mut MemoryDesk) -> (Looked, Taken, Taken) {
+    let mut ahead = Ahead::new(desk);
     let _ = ahead.begin_read(Role::Input, "file");
     let looked = ahead.peek();
     let one = take_next(&mut ahead, 1);
     let four = take_next(&mut ahead, 4);
-    Ok((looked, one, four))
+    (looked, one, four)
 }
 
 /// What a look answers.
@@ -101,13 +126,18 @@ fn take_next<D: Desk>(desk: &mut D, count: usize) -> Taken
     Ok(part[0])
 }
 
+// The number of the call that fails, and what is answered.
+static FAILING: [(u32, (Looked, Taken, Taken)); 4] = [
+    (1, (Err(Failed), Ok(b'0'), Ok(b'1'))),
+    (2, (Ok(Some(*b"0123")), Err(Failed), Ok(b'0'))),
+    (3, (Ok(Some(*b"0123")), Ok(b'0'), Err(Failed))),
+    (4, (Ok(Some(*b"0123")), Ok(b'0'), Ok(b'1'))),
+];
+
 #[test]
 fn each_call_fails(rt: HostRuntime) -> Result<(), Fail> {
-    let alloc = rt.alloc();
-    let front = Ok(Some(*b"0123"));
-    assert_eq!(rt; faulty(alloc, 1)?, (Err(Failed), Ok(b'0'), Ok(b'1')));
-    assert_eq!(rt; faulty(alloc, 2)?, (front, Err(Failed), Ok(b'0')));
-    assert_eq!(rt; faulty(alloc, 3)?, (front, Ok(b'0'), Err(Failed)));
-    assert_eq!(rt; faulty(alloc, 4)?, (front, Ok(b'0'), Ok(b'1')));
+    for (call, wanted) in &FAILING {
+        assert_eq!(rt; faulty(rt.alloc(), *call)?, *wanted, "{call}");
+    }
     Ok(())
 }

@@ -11,47 +11,8 @@ use fv_au::{
 };
 use fv_outside::{Desk, MemoryDesk, Role};
 use std::alloc::Global;
+use std::process::Abort;
 use std::test::Fail;
-
-#[test]
-fn a_file_is_written(rt: HostRuntime) -> Result<(), Fail> {
-    let mut desk = MemoryDesk::new(rt.alloc());
-    desk.room(Role::Output, 30)?;
-    assert_eq!(rt; desk.begin_write(Role::Output, "file"), Ok(()));
-    assert_eq!(rt; write_au_head(&mut desk, 1, 44100, 16, 6), Ok(()));
-    let mut bytes = [0; 6];
-    assert_eq!(rt;
-        write_au_frames(&mut desk, 16, &[1, -2, 3], &mut bytes),
-        Ok(())
-    );
-    let mut file = Vec::from_slice(rt.alloc(), b".snd")?;
-    file.extend_from_slice(&THREE)?;
-    assert!(rt; desk.written(Role::Output) == file.as_slice());
-    let full = WriteRefusal::WriteFault { role: Role::Output };
-    assert_eq!(rt; write_au_frames(&mut desk, 16, &[4], &mut bytes), Err(full));
-    Ok(())
-}
-
-#[test]
-fn frames_are_read_to_the_cut(rt: HostRuntime) -> Result<(), Fail> {
-    let mut desk = MemoryDesk::new(rt.alloc());
-    desk.put("samples", &THREE[20..25])?;
-    assert_eq!(rt; desk.begin_read(Role::Input, "samples"), Ok(()));
-    let mut bytes = [0; 4];
-    let mut two = [0; 2];
-    assert_eq!(rt;
-        read_au_frames(&mut desk, &HEAD, 24, &mut bytes, &mut two),
-        Ok(())
-    );
-    assert_eq!(rt; two, [1, -2]);
-    let mut one = [0; 1];
-    let cut = AuRefusal::AuTruncated { place: 29 };
-    assert_eq!(rt;
-        read_au_frames(&mut desk, &HEAD, 28, &mut bytes, &mut one),
-        Err(cut)
-    );
-    Ok(())
-}
 
 // The file of three samples, on a desk that may fail.
 fn write_three(desk: &mut MemoryDesk) -> Result<(), WriteRefusal> {
@@ -61,6 +22,50 @@ fn write_three(desk: &mut MemoryDesk) -> Result<(), WriteRefusal> {
     let mut bytes = [0; 6];
     write_au_head(desk, 1, 44100, 16, 6)?;
     write_au_frames(desk, 16, &[1, -2, 3], &mut bytes)
+}
+
+// The file of three samples fits on a desk, and nothing more.
+fn assert_fits(rt: &impl Abort, desk: &mut MemoryDesk) {
+    assert_eq!(rt; write_three(desk), Ok(()));
+    let file = desk.written(Role::Output);
+    assert!(rt; file.len() == 30 && file.starts_with(b".snd") && file.ends_with(&THREE));
+    let full = WriteRefusal::WriteFault { role: Role::Output };
+    let mut bytes = [0; 6];
+    assert_eq!(rt; write_au_frames(desk, 16, &[4], &mut bytes), Err(full));
+}
+
+#[test]
+fn a_file_is_written(rt: HostRuntime) -> Result<(), Fail> {
+    let mut desk = MemoryDesk::new(rt.alloc());
+    desk.room(Role::Output, 30)?;
+    assert_fits(&rt, &mut desk);
+    Ok(())
+}
+
+// The first two samples behind the head can be read from a desk, on which the third one is cut.
+fn assert_two_are_read(rt: &impl Abort, desk: &mut MemoryDesk) {
+    assert!(rt; desk.begin_read(Role::Input, "samples").is_ok());
+    let mut bytes = [0; 4];
+    let mut two = [0; 2];
+    assert_eq!(rt;
+        read_au_frames(desk, &HEAD, 24, &mut bytes, &mut two),
+        Ok(())
+    );
+    assert_eq!(rt; two, [1, -2]);
+    let mut one = [0; 1];
+    let cut = AuRefusal::AuTruncated { place: 29 };
+    assert_eq!(rt;
+        read_au_frames(desk, &HEAD, 28, &mut bytes, &mut one),
+        Err(cut)
+    );
+}
+
+#[test]
+fn frames_are_read_to_the_cut(rt: HostRuntime) -> Result<(), Fail> {
+    let mut desk = MemoryDesk::new(rt.alloc());
+    desk.put("samples", &THREE[20..25])?;
+    assert_two_are_read(&rt, &mut desk);
+    Ok(())
 }
 
 /// What is answered where the call of Output with this number fails, and how many bytes were written.
@@ -132,14 +137,26 @@ fn rest_behind(alloc: Global, desk: &mut MemoryDesk, head: &AuHead) -> Result<Ve
     read_au_rest(alloc, desk, head)
 }
 
+// The samples up to the end of a file, whose bytes come in pieces of a size, are these.
+fn assert_rest(
+    rt: &impl Abort,
+    alloc: Global,
+    behind: &[u8],
+    piece: u32,
+    wanted: &[i32],
+) -> Result<(), Fail>
+    requires { 1 ≤ piece }
+{
+    let samples = rest_of(alloc, behind, piece, 99)??;
+    assert!(rt; samples.as_slice() == wanted, "{piece}");
+    Ok(())
+}
+
 #[test]
 fn samples_up_to_the_end(rt: HostRuntime) -> Result<(), Fail> {
-    let alloc = rt.alloc();
     for piece in 1..4 {
-        let whole = rest_of(alloc, &OPEN, piece, 99)??;
-        assert!(rt; whole.as_slice() == [1, -2, 3].as_slice());
-        let cut = rest_of(alloc, &OPEN[..25], piece, 99)??;
-        assert!(rt; cut.as_slice() == [1, -2].as_slice());
+        assert_rest(&rt, rt.alloc(), &OPEN, piece, &[1, -2, 3])?;
+        assert_rest(&rt, rt.alloc(), &OPEN[..25], piece, &[1, -2])?;
     }
     Ok(())
 }
@@ -147,9 +164,13 @@ fn samples_up_to_the_end(rt: HostRuntime) -> Result<(), Fail> {
 #[test]
 fn each_reading_fails(rt: HostRuntime) -> Result<(), Fail> {
     let fault = AuRefusal::ReadFault { role: Role::Input };
-    for call in 0..4 {
-        assert_eq!(rt; rest_of(rt.alloc(), &OPEN, 60, call)?.err(), Some(fault));
+    for call in 0..5 {
+        let wanted = if call < 4 { Some(fault) } else { None };
+        assert_eq!(rt;
+            rest_of(rt.alloc(), &OPEN, 60, call)?.err(),
+            wanted,
+            "{call}"
+        );
     }
-    assert_eq!(rt; rest_of(rt.alloc(), &OPEN, 60, 4)?.err(), None);
     Ok(())
 }

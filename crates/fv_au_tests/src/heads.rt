@@ -5,6 +5,7 @@ ghost use Rattle.std.specs.Prelude.{◌≤◌};
 use fv_au::{AuHead, AuRefusal, read_au_head};
 use fv_outside::{Desk, MemoryDesk, Role};
 use std::alloc::Global;
+use std::process::Abort;
 use std::test::Fail;
 
 /// Three samples of 16 bits, 1, -2 and 3, behind the first four bytes of their file.
@@ -48,34 +49,43 @@ fn changed(
     head_of(alloc, &behind)
 }
 
-// A place and the byte that is put there, the length at which the file is cut, and what refuses it.
-static CHANGED: [(usize, u8, usize, AuRefusal); 10] = [
-    (7, 24, 7, AuRefusal::AuTruncated { place: 7 }),
-    (7, 23, 8, AuRefusal::AuFormat { place: 4 }),
-    (7, 24, 15, AuRefusal::AuTruncated { place: 15 }),
-    (15, 1, 16, AuRefusal::AuFormat { place: 12 }),
-    (15, 6, 16, AuRefusal::AuFormat { place: 12 }),
-    (7, 24, 23, AuRefusal::AuTruncated { place: 23 }),
-    (23, 0, 30, AuRefusal::AuFormat { place: 20 }),
-    (21, 1, 30, AuRefusal::AuFormat { place: 20 }),
-    (7, 31, 30, AuRefusal::AuTruncated { place: 30 }),
-    (4, 1, 30, AuRefusal::AuTruncated { place: 30 }),
+/// What was found is what is wanted; else two numbers tell where.
+fn assert_same(
+    rt: &impl Abort,
+    found: Result<AuHead, AuRefusal>,
+    wanted: Result<AuHead, AuRefusal>,
+    row: (u32, u32),
+) {
+    assert_eq!(rt; found, wanted, "{row:?}");
+}
+
+// A place and the byte that is put there, the length at which the file is cut, and its head, or what refuses it.
+static CHANGED: [(u32, u8, u32, Result<AuHead, AuRefusal>); 12] = [
+    (7, 24, 30, Ok(HEAD)),
+    (7, 24, 24, Ok(HEAD)),
+    (7, 24, 7, Err(AuRefusal::AuTruncated { place: 7 })),
+    (7, 23, 8, Err(AuRefusal::AuFormat { place: 4 })),
+    (7, 24, 15, Err(AuRefusal::AuTruncated { place: 15 })),
+    (15, 1, 16, Err(AuRefusal::AuFormat { place: 12 })),
+    (15, 6, 16, Err(AuRefusal::AuFormat { place: 12 })),
+    (7, 24, 23, Err(AuRefusal::AuTruncated { place: 23 })),
+    (23, 0, 30, Err(AuRefusal::AuFormat { place: 20 })),
+    (21, 1, 30, Err(AuRefusal::AuFormat { place: 20 })),
+    (7, 31, 30, Err(AuRefusal::AuTruncated { place: 30 })),
+    (4, 1, 30, Err(AuRefusal::AuTruncated { place: 30 })),
 ];
 
 #[test]
 fn heads(rt: HostRuntime) -> Result<(), Fail> {
-    let alloc = rt.alloc();
-    assert_eq!(rt; head_of(alloc, &THREE)?, Ok(HEAD));
-    assert_eq!(rt; changed(alloc, 7, 24, 24)?, Ok(HEAD));
-    for (place, value, length, refusal) in &CHANGED {
-        assert_eq!(rt; changed(alloc, *place, *value, *length)?, Err(*refusal));
+    for (place, value, length, wanted) in &CHANGED {
+        let found = changed(rt.alloc(), *place as usize, *value, *length as usize)?;
+        assert_same(&rt, found, *wanted, (*place, u32::from(*value)));
     }
     Ok(())
 }
 
 #[test]
 fn an_unknown_size(rt: HostRuntime) -> Result<(), Fail> {
-    let alloc = rt.alloc();
     let behind = b"\0\0\0\x1c\xff\xff\xff\xff\0\0\0\x02\0\0\0\x01\0\0\x01\0none";
     let head = AuHead {
         channels: 256,
@@ -84,7 +94,7 @@ fn an_unknown_size(rt: HostRuntime) -> Result<(), Fail> {
         data_bytes: None,
         offset: 28,
     };
-    assert_eq!(rt; head_of(alloc, behind)?, Ok(head));
+    assert_same(&rt, head_of(rt.alloc(), behind)?, Ok(head), (4, 0));
     Ok(())
 }
 
@@ -106,13 +116,12 @@ fn faulty(alloc: Global, piece: u32, call: u32) -> Result<Result<AuHead, AuRefus
 
 #[test]
 fn pieces_and_faults(rt: HostRuntime) -> Result<(), Fail> {
-    let alloc = rt.alloc();
     let fault = AuRefusal::ReadFault { role: Role::Input };
     for call in 0..5 {
-        assert_eq!(rt; faulty(alloc, 7, call)?, Err(fault));
+        assert_same(&rt, faulty(rt.alloc(), 7, call)?, Err(fault), (7, call));
     }
     for piece in 1..8 {
-        assert_eq!(rt; faulty(alloc, piece, 99)?, Ok(HEAD));
+        assert_same(&rt, faulty(rt.alloc(), piece, 99)?, Ok(HEAD), (piece, 99));
     }
     Ok(())
 }
