@@ -9,7 +9,7 @@ use fv_diagram_runner::Stepper;
 use std::alloc::{AllocError, Global};
 use std::process::Abort;
 use std::test::Fail;
-use test_diagrams::{Build, Item, WIRE};
+use test_diagrams::{Build, Item, Unput, WIRE};
 use test_programs::program_with_controls;
 
 // An expression, frames that stand one after another, and what it answers on them.
@@ -230,9 +230,8 @@ fn rows_run(rt: HostRuntime) -> Result<(), Fail> {
     Ok(())
 }
 
-// A chain of as many nodes as there may be, and what comes out of it. One node more is refused, and puts nothing.
-fn chain(rt: &impl Abort, alloc: Global, leftwards: bool, want: &[i32]) -> Result<(), Fail> {
-    let mut build = Build::new(alloc);
+// Puts a chain. The last item has as many nodes as there may be.
+fn put_chain(build: &mut Build, leftwards: bool) -> Result<(), Unput> {
     for item in [Item::Number(0), WIRE, Item::Prim(Prim::Mem)] {
         build.put(item)?;
     }
@@ -251,28 +250,45 @@ fn chain(rt: &impl Abort, alloc: Global, leftwards: bool, want: &[i32]) -> Resul
         Item::Par(0, 8192)
     };
     build.put(item)?;
-    assert_eq!(rt; build.put(Item::Bind(8193))?, None);
-    let root = DiagramId::new(8194);
+    build.put(Item::Bind(8193))?;
+    Ok(())
+}
+
+// Compares what comes out of a chain.
+fn play_chain(rt: &impl Abort, alloc: Global, build: &Build, want: &[i32]) -> Result<(), Fail> {
     assert!(rt; build.count() == 8195);
-    play(
-        rt,
-        alloc,
-        "chain",
-        build.diagrams(),
-        root,
-        &[1, 5, 1, 7, 1, 4],
-        want,
-    )?;
-    assert_eq!(rt;
-        build.put(Item::Par(8193, 0))?,
-        Some(PutRefusal::SizeBudget { size: 16385 })
-    );
-    assert_eq!(rt;
-        build.put(Item::Par(8194, 8194))?,
-        Some(PutRefusal::SizeBudget { size: 32769 })
-    );
-    assert_eq!(rt; build.put(Item::Number(0))?, None);
+    let root = DiagramId::new(8194);
+    let frames = [1, 5, 1, 7, 1, 4];
+    play(rt, alloc, "chain", build.diagrams(), root, &frames, want)
+}
+
+// Items over a chain, and why they are refused.
+static OVER: [(Item, Option<PutRefusal>); 3] = [
+    (
+        Item::Par(8193, 0),
+        Some(PutRefusal::SizeBudget { size: 16385 }),
+    ),
+    (
+        Item::Par(8194, 8194),
+        Some(PutRefusal::SizeBudget { size: 32769 }),
+    ),
+    (Item::Number(0), None),
+];
+
+// Tries these: what is refused puts nothing.
+fn put_over(rt: &impl Abort, build: &mut Build) {
+    for (item, refusal) in &OVER {
+        assert_eq!(rt; build.put(*item), Ok(*refusal));
+    }
     assert_eq!(rt; build.count(), 8196);
+}
+
+// A chain of as many nodes as there may be, and what comes out of it. One node more is refused.
+fn chain(rt: &impl Abort, alloc: Global, leftwards: bool, want: &[i32]) -> Result<(), Fail> {
+    let mut build = Build::new(alloc);
+    put_chain(&mut build, leftwards)?;
+    play_chain(rt, alloc, &build, want)?;
+    put_over(rt, &mut build);
     Ok(())
 }
 

@@ -1,6 +1,6 @@
 use Rattle.std.proofs.Common.{◌<◌, rules}
 use Rattle.fv_diagram.specs.Arena.{count_of}
-use Rattle.fv_diagram_tests.proofs.runs.chain.Goals as goal
+use Rattle.fv_diagram_tests.proofs.runs.play_chain.Goals as goal
 
 pub play-requires-clause-closed : goal.play-requires-clause-closed
 play-requires-clause-closed g c =
