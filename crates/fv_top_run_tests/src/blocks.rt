@@ -27,24 +27,50 @@ static CHANGES: Played = (
     "done 5 frames\n",
 );
 
+// A program that is played under a gate is counted so.
+fn assert_counts<G: Gate + Sync>(
+    rt: &(impl Threads + Wait + Sync + Abort),
+    alloc: Global,
+    played: &Played<'_>,
+    gate: &mut G,
+    wanted: Tally,
+) -> Result<(), Fail> {
+    let tally = assert_plays(rt, alloc, played, gate)?;
+    assert_eq!(rt; tally, wanted);
+    Ok(())
+}
+
+// The loops and vectors of a block, and how many pairs and lines it has.
+fn sizes_of(gate: &Recorder, block: u32) -> Option<(u64, u32, usize, usize)> {
+    let (loops, vectors, reads, lines) = block_of(gate, block)?;
+    Some((loops, vectors, reads.len(), lines.len()))
+}
+
+// A gate was told of so many blocks.
+fn assert_calls(rt: &impl Abort, gate: &Recorder, wanted: Option<u32>) {
+    assert_eq!(rt; gate.calls(), wanted);
+}
+
+// A gate was told of three blocks with a loop and a line each.
+fn assert_three_blocks(rt: &impl Abort, gate: &Recorder) {
+    assert_calls(rt, gate, Some(3));
+    for block in 0..3 {
+        assert_eq!(rt; sizes_of(gate, block), Some((1, 1, 0, 1)), "block {block}");
+    }
+}
+
 // A gain that changes at frames 2 and 3, on five frames.
 #[test]
 fn tells_a_block_for_each_change(rt: HostRuntime) -> Result<(), Fail> {
     let mut gate = Recorder::new(rt.alloc(), 8, 64)?;
-    let tally = assert_plays(&rt, rt.alloc(), &CHANGES, &mut gate)?;
     let wanted = Tally {
         frames: 5,
         blocks: 3,
         loops: 1,
         loop_runs: 3,
     };
-    assert_eq!(rt; (tally, gate.calls()), (wanted, Some(3)));
-    for block in 0..3 {
-        let Some((loops, vectors, reads, lines)) = block_of(&gate, block) else {
-            panic!(rt; "no block {block}");
-        };
-        assert_eq!(rt; (loops, vectors, reads.len(), lines.len()), (1, 1, 0, 1));
-    }
+    assert_counts(&rt, rt.alloc(), &CHANGES, &mut gate, wanted)?;
+    assert_three_blocks(&rt, &gate);
     Ok(())
 }
 
@@ -66,7 +92,7 @@ static DIFFERENCE: Played = (
     "done 3 frames\n",
 );
 
-// A signal less its `mem` under a gate with room for so many lines: two loops, of which the second reads the first.
+// A signal less its `mem` under a gate: two loops, of which the second reads the first.
 fn play_difference(
     rt: &(impl Threads + Wait + Sync + Abort),
     alloc: Global,
@@ -78,31 +104,29 @@ fn play_difference(
         loops: 2,
         loop_runs: 2,
     };
-    assert_eq!(rt; assert_plays(rt, alloc, &DIFFERENCE, gate)?, wanted);
-    Ok(())
+    assert_counts(rt, alloc, &DIFFERENCE, gate, wanted)
+}
+
+static PAIRS: [Reads; 1] = [Reads {
+    reader: 1,
+    source: 0,
+}];
+
+// A gate was told of its one block.
+fn assert_one_block(rt: &impl Abort, gate: &Recorder) {
+    assert_calls(rt, gate, Some(1));
+    let lines = [line(0, 0, 1), line(1, 2, 3)];
+    assert_eq!(rt;
+        block_of(gate, 0),
+        Some((2, 1, PAIRS.as_slice(), lines.as_slice()))
+    );
 }
 
 #[test]
 fn tells_which_loop_reads_which(rt: HostRuntime) -> Result<(), Fail> {
     let mut gate = Recorder::new(rt.alloc(), 1, 2)?;
     play_difference(&rt, rt.alloc(), &mut gate)?;
-    let pair = Reads {
-        reader: 1,
-        source: 0,
-    };
-    assert_eq!(rt; gate.calls(), Some(1));
-    let Some((loops, vectors, reads, lines)) = block_of(&gate, 0) else {
-        panic!(rt; "no block");
-    };
-    assert_eq!(rt;
-        (loops, vectors, reads, lines),
-        (
-            2,
-            1,
-            [pair].as_slice(),
-            [line(0, 0, 1), line(1, 2, 3)].as_slice()
-        )
-    );
+    assert_one_block(&rt, &gate);
     Ok(())
 }
 
@@ -111,7 +135,7 @@ fn tells_which_loop_reads_which(rt: HostRuntime) -> Result<(), Fail> {
 fn tells_nothing_without_room(rt: HostRuntime) -> Result<(), Fail> {
     let mut gate = Recorder::new(rt.alloc(), 1, 1)?;
     play_difference(&rt, rt.alloc(), &mut gate)?;
-    assert_eq!(rt; gate.calls(), None);
+    assert_calls(&rt, &gate, None);
     Ok(())
 }
 
@@ -149,6 +173,7 @@ fn counts_what_runs(rt: HostRuntime) -> Result<(), Fail> {
 fn counts_nothing_of_a_check(rt: HostRuntime) -> Result<(), Fail> {
     let mut gate = Recorder::new(rt.alloc(), 1, 1)?;
     let tally = tally_of_gain(&rt, rt.alloc(), &["check", "p.dsp"], &mut gate)?;
-    assert_eq!(rt; (tally, gate.calls()), (Some(NOTHING), Some(0)));
+    assert_calls(&rt, &gate, Some(0));
+    assert!(rt; tally == Some(NOTHING), "{tally:?}");
     Ok(())
 }

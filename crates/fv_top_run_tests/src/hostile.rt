@@ -6,7 +6,6 @@ use crate::au::{AU_OPEN, AU_THREE};
 use crate::files::{ODD, PLAIN};
 use fv_outside::{MemoryDesk, Role};
 use std::alloc::{AllocError, Global};
-use std::process::Abort;
 use std::sync::Wait;
 use std::test::Fail;
 use std::thread::Threads;
@@ -109,31 +108,73 @@ fn is_fault(desk: &MemoryDesk, role: Role, output: &[u8]) -> bool {
         && output.starts_with(desk.written(Role::Output))
 }
 
+// A call for a role, with so many bytes at a time, that is refused.
+#[derive(Clone, Copy)]
+struct Fault {
+    role: Role,
+    size: u32,
+    call: u32,
+}
+
+// The desk of a row, of which a call will fail.
+fn faulty_desk(alloc: Global, row: &Row<'_>, fault: &Fault) -> Result<MemoryDesk, AllocError>
+    requires { 1 ≤ fault.now.size }
+{
+    let (_, text, input, _) = *row;
+    let mut desk = desk_of(alloc, text.as_bytes(), input)?;
+    desk.pieces(fault.role, fault.size);
+    desk.fail(fault.role, fault.call)?;
+    Ok(desk)
+}
+
+// Whether a run ends by the fault of this desk. Where it does not, it ends as its row says.
+fn ends_by_fault(
+    rt: &(impl Threads + Wait + Sync),
+    alloc: Global,
+    desk: &mut MemoryDesk,
+    row: &Row<'_>,
+    fault: &Fault,
+) -> Result<bool, Fail> {
+    let (words, _, _, (_, line, output)) = *row;
+    let ended = status_of(rt, alloc, desk, words)?;
+    if ended == 1 && is_fault(desk, fault.role, output) {
+        return Ok(true);
+    }
+    let told = desk.written(Role::Report);
+    if ended == 0 && told == line.as_bytes() && desk.written(Role::Output) == output {
+        return Ok(false);
+    }
+    let Fault { role, size, call } = fault;
+    Err(Fail::new(format_args!("{role:?} {size} {call}: {ended}")))
+}
+
+// The same of the desk of its row.
+fn fails(
+    rt: &(impl Threads + Wait + Sync),
+    alloc: Global,
+    row: &Row<'_>,
+    fault: &Fault,
+) -> Result<bool, Fail>
+    requires { 1 ≤ fault.now.size }
+{
+    let mut desk = faulty_desk(alloc, row, fault)?;
+    ends_by_fault(rt, alloc, &mut desk, row, fault)
+}
+
 // How many calls of a role a run makes, with so many bytes at a time: each of them is refused in turn, and the next one is not made.
 fn calls_that_fail(
-    rt: &(impl Threads + Wait + Sync + Abort),
+    rt: &(impl Threads + Wait + Sync),
     alloc: Global,
     row: &Row<'_>,
     role: Role,
     size: u32,
-) -> Result<u32, AllocError>
+) -> Result<u32, Fail>
     requires { 1 ≤ size }
 {
-    let (words, text, input, (_, line, output)) = *row;
     for call in 0..200 {
-        let mut desk = desk_of(alloc, text.as_bytes(), input)?;
-        desk.pieces(role, size);
-        desk.fail(role, call)?;
-        let ended = status_of(rt, alloc, &mut desk, words)?;
-        let is_whole = desk.written(Role::Report) == line.as_bytes()
-            && desk.written(Role::Output) == output;
-        if ended == 0 && is_whole {
+        if !fails(rt, alloc, row, &Fault { role, size, call })? {
             return Ok(call);
         }
-        assert!(rt;
-            ended == 1 && is_fault(&desk, role, output),
-            "{role:?} {size} {call}"
-        );
     }
     Ok(200)
 }
@@ -183,6 +224,14 @@ fn failing_desk(alloc: Global, role: Role, call: u32) -> Result<MemoryDesk, Allo
     Ok(desk)
 }
 
+// The next calls of the report fail too.
+fn silence(desk: &mut MemoryDesk) -> Result<(), AllocError> {
+    for later in 0..4 {
+        desk.fail(Role::Report, later)?;
+    }
+    Ok(())
+}
+
 // A run over that desk ends so where the refusal's own line can not be written.
 fn assert_ends_in_silence(
     rt: &(impl Threads + Wait + Sync),
@@ -192,13 +241,28 @@ fn assert_ends_in_silence(
     end: End<'_>,
 ) -> Result<(), Fail> {
     let mut desk = failing_desk(alloc, role, call)?;
-    for later in 0..4 {
-        desk.fail(Role::Report, later)?;
-    }
+    silence(&mut desk)?;
     assert_ends(rt, alloc, &mut desk, &BLOCKS_OF_FOUR, end)
 }
 
-// Where it can not, the answer and the output are what they are where it can. Whether there was a refusal.
+// Where it can not, the answer and the output are what they are on this desk, where it can. Whether there was a refusal.
+fn ends_alike(
+    rt: &(impl Threads + Wait + Sync),
+    alloc: Global,
+    desk: &mut MemoryDesk,
+    role: Role,
+    call: u32,
+) -> Result<bool, Fail> {
+    let ended = status_of(rt, alloc, desk, &BLOCKS_OF_FOUR)?;
+    if ended == 0 {
+        return Ok(false);
+    }
+    let end = (ended, "", desk.written(Role::Output));
+    assert_ends_in_silence(rt, alloc, role, call, end)?;
+    Ok(true)
+}
+
+// The same of a call for a role.
 fn ends_alike_in_silence(
     rt: &(impl Threads + Wait + Sync),
     alloc: Global,
@@ -206,13 +270,7 @@ fn ends_alike_in_silence(
     call: u32,
 ) -> Result<bool, Fail> {
     let mut desk = failing_desk(alloc, role, call)?;
-    let ended = status_of(rt, alloc, &mut desk, &BLOCKS_OF_FOUR)?;
-    if ended == 0 {
-        return Ok(false);
-    }
-    let end = (ended, "", desk.written(Role::Output));
-    assert_ends_in_silence(rt, alloc, role, call, end)?;
-    Ok(true)
+    ends_alike(rt, alloc, &mut desk, role, call)
 }
 
 #[test]

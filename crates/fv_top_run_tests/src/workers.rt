@@ -3,7 +3,7 @@
 ghost use Rattle.std.specs.Prelude.{◌<◌};
 
 use crate::blocks::NOTHING;
-use fv_outside::{FreeGate, Gate, Role};
+use fv_outside::{FreeGate, Gate, MemoryDesk, Role};
 use fv_top::Tally;
 use std::alloc::{AllocError, Global};
 use std::process::Abort;
@@ -71,39 +71,57 @@ fn thirds(alloc: Global, apart: usize, loud: [i32; 3]) -> Result<Vec<u8>, AllocE
     file_of(alloc, 2, &samples)
 }
 
-// The echoes of 1000 in two channels, half as loud after so many frames, with these words, as the gate sees them.
+// An echo's text, and after how many frames it comes.
+type Echo = (&'static str, usize);
+
+// A desk with an echo, and 1000 in two channels.
+fn echo_desk(alloc: Global, echo: Echo) -> Result<MemoryDesk, AllocError>
+    requires { echo.1 < 1000000 }
+{
+    let (text, apart) = echo;
+    let input = thirds(alloc, apart, [1000, 0, 0])?;
+    desk_of(alloc, text.as_bytes(), &input)
+}
+
+// What is written is the echoes of 1000 in two channels, half as loud after so many frames.
+fn assert_echoes(alloc: Global, written: &[u8], apart: usize, words: &[&str]) -> Result<(), Fail>
+    requires { apart < 1000000 }
+{
+    let output = thirds(alloc, apart, [1000, 500, 250])?;
+    if written != output.as_slice() {
+        return Err(Fail::new(format_args!("{words:?}: another output")));
+    }
+    Ok(())
+}
+
+// They are, with these words, as the gate sees them.
 fn echoes<G: Gate + Sync>(
     rt: &(impl Threads + Wait + Sync + Abort),
     alloc: Global,
-    echo: (&str, usize),
+    echo: Echo,
     words: &[&str],
     gate: &mut G,
-) -> Result<Option<Tally>, AllocError> {
-    let (text, apart) = echo;
+) -> Result<Option<Tally>, Fail> {
+    let apart = echo.1;
     assert!(rt; apart < 1_000_000);
-    let input = thirds(alloc, apart, [1000, 0, 0])?;
-    let output = thirds(alloc, apart, [1000, 500, 250])?;
-    let mut desk = desk_of(alloc, text.as_bytes(), &input)?;
+    let mut desk = echo_desk(alloc, echo)?;
     let tally = tally_of(rt, alloc, &mut desk, words, gate)?;
-    assert!(rt;
-        desk.written(Role::Output) == output.as_slice(),
-        "{words:?}"
-    );
+    assert_echoes(alloc, desk.written(Role::Output), apart, words)?;
     Ok(tally)
 }
 
 // Echoes after a quarter of a second, and after 110 frames.
-const QUARTERS: (&str, usize) = (
+const QUARTERS: Echo = (
     "echo(d,g) = + ~ (@(d-1) : *(g) : /(256)); process = par(i,2,echo(11025,128));",
     11025,
 );
 
-const SHORT: (&str, usize) = (
+const SHORT: Echo = (
     "echo(d,g) = + ~ (@(d-1) : *(g) : /(256)); process = par(i,2,echo(110,128));",
     110,
 );
 
-static ECHOES: [((&str, usize), &str, &str, &str); 8] = [
+static ECHOES: [(Echo, &str, &str, &str); 8] = [
     (SHORT, "--block=1", "--vector=1", "--workers=1"),
     (SHORT, "--block=7", "--vector=7", "--workers=1"),
     (SHORT, "--block=512", "--vector=32", "--workers=1"),
