@@ -18,7 +18,7 @@ use std::alloc::{AllocError, Global};
 const NAME_BITS: u64 = 20;
 
 /// A list within others, and the roots of the trees of those and of it.
-#[derive(Clone, Copy, Debug)]
+#[derive(Clone, Copy)]
 pub(crate) struct Nested {
     list: u64,
     around: u64,

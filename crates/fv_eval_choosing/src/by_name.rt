@@ -12,7 +12,7 @@ use std::alloc::{AllocError, Global};
 use std::marker::Model;
 
 /// A definition: the canonical number of its name, and its node.
-#[derive(Clone, Copy, Debug)]
+#[derive(Clone, Copy)]
 pub(crate) struct Defined {
     pub(crate) name: u64,
     pub(crate) node: TreeId,

@@ -18,7 +18,7 @@ use fv_outside::Desk;
 
 /// Where the walk over the chunks stands: how many may still stand before `data`, the format if it was seen, and the place
 /// of the next one.
-#[derive(Clone, Copy, Debug)]
+#[derive(Clone, Copy)]
 pub struct Walk {
     pub room: u32,
     pub seen: Option<Format>,
@@ -26,7 +26,7 @@ pub struct Walk {
 }
 
 /// What the next chunk leads to.
-#[derive(Clone, Copy, Debug)]
+#[derive(Clone, Copy)]
 pub enum NextChunk {
     Data(Head),
     Chunk(Walk),

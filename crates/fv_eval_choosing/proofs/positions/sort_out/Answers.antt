@@ -4,10 +4,14 @@ use Rattle.fv_rules.specs.headline.Values.{Rule, rule_of}
 use Rattle.fv_eval_choosing.specs.declared.wants.Wanted.{Wanted}
 use Rattle.fv_eval_choosing.specs.Chosen.{nodes_of}
 use Rattle.fv_eval_choosing.specs.Positions.{Sorts}
-use Rattle.fv_eval_choosing.proofs.RuleNodes.{rules_at}
+use Rattle.fv_eval_choosing.proofs.RuleNodes.{node_there, rules_at}
 use Rattle.fv_eval_choosing.proofs.Wanting.{rule_here, sorts_free, sorts_more}
 use Rattle.fv_eval_choosing.proofs.positions.sort_out.Goals.{in-None+in_ok-add-in-None, in-Some+in_ok-push-in-Some}
 use Rattle.fv_eval_choosing.proofs.positions.sort_out.Goals as goal
+
+pub want_at-requires : goal.want_at-requires
+want_at-requires c =
+    node_there c.args.tree.now (nodes_of c.args.rules) c.loop-i.i c.node-node.result c.requires c.node-node.ensures
 
 pub loop-i-preserved : goal.loop-i-preserved
 loop-i-preserved c =

@@ -1,6 +1,7 @@
 use Rattle.std.proofs.Common.{◌≡◌, ◌∙◌, arith, refl, rules, []}
 use Rattle.std.proofs.lemmas.Result.{err_from_is_err_and}
-use Rattle.fv_outside.proofs.lemmas.States.{takes_nothing, takes_then, some_then, takes_quiet, some_quiet, told_before, unfailing_later, front_is, all_is}
+use Rattle.fv_outside.proofs.lemmas.States.{takes_nothing, takes_then, some_then, takes_quiet, some_quiet, told_before, unfailing_later}
+use Rattle.fv_outside.proofs.lemmas.States.{front_is, all_is, fault_earlier}
 use Rattle.fv_outside.proofs.transfer.read_up_to.Goals as goal
 
 pub chunks-init : goal.chunks-init
@@ -21,6 +22,11 @@ returns-in_err-n-clause-answers g c = λ t safe is.
     let so_far = c.chunks.invariant.taken.goes_on in
     let p = err_from_is_err_and c.from_residual-in_err-n.result c.from_residual-in_err-n.ensures.1 in
     c.in_err-n.ensures.answers (told_before so_far t) (unfailing_later c.args.role so_far t safe) (cc (p.1, p.2))
+
+pub returns-in_err-n-clause-failed : goal.returns-in_err-n-clause-failed
+returns-in_err-n-clause-failed g c = λ is.
+    let p = err_from_is_err_and c.from_residual-in_err-n.result c.from_residual-in_err-n.ensures.1 in
+    fault_earlier (g.D.Desk.state c.append_next.new.desk) c.args.role c.chunks.invariant.taken.goes_on (c.in_err-n.ensures.failed (cc (p.1, p.2)))
 
 pub returns-in_err-n-clause-steady : goal.returns-in_err-n-clause-steady
 returns-in_err-n-clause-steady g c = λ other r.

@@ -1,6 +1,8 @@
-use Rattle.std.proofs.Common.{◌++◌, ap, arith, length, length-append, take, []}
+use Rattle.std.proofs.Common.{List, ℕ, ◌++◌, ap, arith, length, length-append, take, [], subst}
+use Rattle.std.proofs.lemmas.List.{take_all}
+use denote.Ref.{Bor}
 use Rattle.std.proofs.lemmas.Result.{err_from_is_err_and}
-use Rattle.fv_outside.specs.Desk.{joined}
+use Rattle.fv_outside.specs.Desk.{Appends, joined}
 use Rattle.fv_outside.proofs.lemmas.States.{appends_then, joined_part, joined_room, told_before, unfailing_later}
 use Rattle.fv_outside.proofs.transfer.write_pieces.Goals as goal
 
@@ -26,3 +28,9 @@ returns-in_err-write_all-clause-answers g c = λ t safe room.
     let answered = c.in_err-write_all.ensures.answers (told_before so_far.goes_on t) (unfailing_later c.args.role so_far.goes_on t safe)
     (omega (arith, longer, free, there, length-append ((state c.args.desk.now).written c.args.role) (joined (take i c.args.pieces.now)))) in
     absurd cc
+
+pub returns-clause-ok : goal.returns-clause-ok
+returns-clause-ok g c =
+    let all = take_all c.loop-piece.piece-index c.args.pieces.now c.loop-piece-test.false in
+    subst (λ (ps : List (Bor (List ℕ))). Appends c.args.role (joined ps) (g.D.Desk.state c.args.desk.now) (g.D.Desk.state c.loop-piece.desk)) all
+    c.loop-piece.invariant.written

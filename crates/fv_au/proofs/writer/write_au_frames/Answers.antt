@@ -1,0 +1,11 @@
+use Rattle.std.proofs.Common.{rules}
+use Rattle.fv_au.proofs.writer.write_au_frames.Goals as goal
+
+pub returns-in_err-write_all-clause-err : goal.returns-in_err-write_all-clause-err
+returns-in_err-write_all-clause-err g c = search rules
+
+pub returns-in_err-write_all-clause-answers : goal.returns-in_err-write_all-clause-answers
+returns-in_err-write_all-clause-answers g c = search rules
+
+pub returns-clause-ok : goal.returns-clause-ok
+returns-clause-ok g c = search rules
