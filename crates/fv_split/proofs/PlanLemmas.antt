@@ -45,7 +45,8 @@ use Rattle.fv_split.specs.declared.cells.Cells.{Cells}
 use Rattle.fv_split.specs.inner.Cells.{AreOf}
 use Rattle.fv_split.specs.inner.ToldReads.{LoadsAmong, reads_of_loops}
 use Rattle.fv_split.proofs.TellLemmas.{IsTold, LoopReads, all_told, few_pairs}
-use Rattle.fv_split.proofs.SuitLemmas.{Passes, survey_of, names_of, own_places, lower_loaded, MayLoad, may_load, in_loop, cells_in_loop, suits}
+use Rattle.fv_split.specs.inner.Surveyed.{Passes}
+use Rattle.fv_split.proofs.SuitLemmas.{survey_of, names_of, own_places, lower_loaded, MayLoad, may_load, in_loop, cells_in_loop, suits}
 use Rattle.fv_split.proofs.SuitLemmas.{separated_lane}
 
 map_items : (f : ℕ → ℤ) (xs : List ℕ) → map f xs ≡ table (length xs) (λ k. f (at xs k))

@@ -10,7 +10,7 @@ use Rattle.fv_signal.specs.declared.signal.Signal.TheVariants as signal
 use Rattle.fv_signal.specs.declared.rate.Rate.{Rate}
 use Rattle.fv_signal.specs.declared.rate.Rate.TheVariants as rate
 use Rattle.fv_signal.specs.headline.Value.{Graph, definition, value, signal_at, IsGraph, IsOrdered, OperandsBelow, NamesWithin}
-use Rattle.fv_signal.specs.headline.Rates.{rate_in, rate_of, rates}
+use Rattle.fv_signal.specs.headline.Rates.{rate_in, rate_of}
 use Rattle.fv_signal.proofs.lemmas.Rates.{rate_is}
 use Rattle.fv_signal.proofs.lemmas.Values.{values_are_given}
 use Rattle.fv_split_components.specs.headline.Reach.{at, Reaches}
@@ -37,8 +37,9 @@ use Rattle.fv_split_code.specs.Emits.{KindFits, IsLoaded, IsKindWithin, kind_of,
 use Rattle.fv_split_code.specs.Emitted.{IsSurvey, IsBase, IsOperand, DelayLane, SuitCells, Suits}
 use Rattle.fv_split_code.specs.Held.{HoldsUpTo}
 use Rattle.fv_split.specs.declared.cells.Cells.{Cells}
-use Rattle.fv_split.specs.inner.Cells.{info_at, AreCells}
-use Rattle.fv_split.specs.inner.Bases.{sample_base, constant_base, base_of, kind_with, AreBases, AreKinds}
+use Rattle.fv_split.specs.inner.Surveyed.{Passes}
+use Rattle.fv_split.specs.inner.Cells.{info_at}
+use Rattle.fv_split.specs.inner.Bases.{sample_base, constant_base, base_of, kind_with}
 
 -- a loop's own places
 abbrev pub own_places : (owners : List ℕ) → (infos : List CellsInfo) → (j : ℕ) → Place → Bool
@@ -82,17 +83,6 @@ pub may_load : (owners : List ℕ) (infos : List CellsInfo) (j l : ℕ) → (low
 may_load owners infos j l e =
     let both = and_parts (nat_lt l (length owners)) (nat_le (at owners l) j) e in
     record { within = ltb-true l (length owners) both.0; lower = leb-true (at owners l) j both.1 }
-
--- what the passes say of the survey's lists
-pub record Passes (g : Graph) (p : Lanes) (stands : Vec ℕ Global) (bases kinds : Vec Kind Global) (cells : Cells) (numbers : List ℕ) (steps : List Step) :
-    Type 0 where
-  pub graph : IsGraph g
-  pub placed : ArePlaced g p
-  pub is_stands : stands.items ≡ stands_of g
-  pub held : HoldsUpTo g (length g.signals) numbers steps
-  pub are_bases : AreBases g (stands_of g) (rates g.signals) p.lanes.items numbers (length g.signals) bases.items
-  pub are_kinds : AreKinds bases.items p.lanes.items (length g.signals) kinds.items
-  pub are_cells : AreCells g p.homes.items (length g.signals) cells
 
 -- the survey
 abbrev pub survey_of : Lanes → (stands : Vec ℕ Global) → (bases kinds : Vec Kind Global) → Cells → Survey

@@ -1,4 +1,5 @@
 pub mod Bases
 pub mod Cells
 pub mod Lists
+pub mod Surveyed
 pub mod ToldReads

@@ -5,18 +5,18 @@ ghost use Rattle.fv_signal.specs.Frames.{table};
 ghost use Rattle.fv_signal.specs.headline.Rates.{rates as rates_of};
 ghost use Rattle.fv_analysis.specs.headline.History.{history_of};
 ghost use Rattle.fv_split_plan.specs.headline.Plans.{PlanStands, PlanReads, PlanNames};
+ghost use Rattle.fv_split.specs.inner.Surveyed.{IsSurveyed};
 
-use crate::cells::{cells_of, copied_tables};
-use crate::kinds::{bases, kinds};
+use crate::cells::copied_tables;
 use crate::lists::{infos, output_lanes};
 use crate::loop_code::{all_code, code};
+use crate::surveyed::{Surveyed, survey_graph};
 use crate::told_reads::reads;
-use fv_analysis::{Histories, Rates, stands};
+use fv_analysis::{Histories, Rates};
 use fv_loopcode::Counts;
-use fv_signal::Graph;
-use fv_split_code::{Survey, codes, held_code};
-use fv_split_lanes::assign_lanes;
-use fv_split_plan::Plan;
+use fv_signal::{Graph, SignalId};
+use fv_split_code::codes;
+use fv_split_plan::{CellsInfo, Plan};
 use std::alloc::{AllocError, Global};
 
 // What the code of the held values may name: the tables.
@@ -28,6 +28,47 @@ fn still_counts(graph: &Graph) -> Counts
         tables: graph.tables(),
         cells: 0,
     }
+}
+
+// The loops of a graph of which this was found out. The many lists of it are lent, since each `?` lets go of all that is owned.
+fn planned(
+    alloc: Global,
+    graph: &Graph,
+    outputs: &[SignalId],
+    histories: &Histories,
+    surveyed: &Surveyed,
+    cells: Vec<CellsInfo>,
+) -> Result<Plan, AllocError>
+    requires histories { histories.now ≡ table (length graph.now.signals) (history_of graph.now) }
+    requires outputs { outputs.now ≡ graph.now.outputs }
+    requires surveyed { IsSurveyed graph.now surveyed.now cells }
+    ensures stands { IfOk result (λ plan. PlanStands graph.now plan) }
+    ensures reads { IfOk result (λ plan. PlanReads plan) }
+    ensures names { IfOk result (λ plan. PlanNames graph.now plan) }
+{
+    let survey = &surveyed.survey;
+    let outputs = output_lanes(alloc, outputs, &survey.stands, &survey.lanes)?;
+    let lanes = infos(alloc, &surveyed.signals, &survey.owners, histories)?;
+    let steps = codes(alloc, graph, survey, surveyed.loops)?;
+    let told = reads(alloc, &steps, &survey.owners)?;
+    let counts = Counts {
+        lanes: lanes.len() as u64,
+        tables: graph.tables(),
+        cells: cells.len() as u64,
+    };
+    let codes = all_code(alloc, steps, counts)?;
+    let held = code(alloc, &surveyed.held, still_counts(graph))?;
+    let copied = copied_tables(alloc, graph)?;
+    Ok(Plan::new(
+        surveyed.loops,
+        lanes,
+        copied,
+        cells,
+        codes,
+        told,
+        outputs,
+        held,
+    ))
 }
 
 /// The loops of a graph whose rates and histories these are.
@@ -46,43 +87,7 @@ pub fn split(
     // The codes name only what is there, and load nothing further back than a history.
     ensures names { IfOk result (λ plan. PlanNames graph.now plan) }
 {
-    let named = graph.outputs();
-    let stands = stands(alloc, graph)?;
-    let places = assign_lanes(alloc, graph, &stands, rates)?;
-    let values = held_code(alloc, graph, rates)?;
-    let bases = bases(alloc, graph, &stands, rates, &places.lanes, &values.numbers)?;
-    let kinds = kinds(alloc, &bases, &places.lanes)?;
-    let outputs = output_lanes(alloc, named, &stands, &places.lanes)?;
-    let lanes = infos(alloc, &places.signals, &places.owners, histories)?;
-    let cells = cells_of(alloc, graph, &places.homes)?;
-    let loops = places.loops;
-    let survey = Survey {
-        stands,
-        bases,
-        kinds,
-        lanes: places.lanes,
-        cells: cells.numbers,
-        homes: places.homes,
-        owners: places.owners,
-    };
-    let steps = codes(alloc, graph, &survey, loops)?;
-    let told = reads(alloc, &steps, &survey.owners)?;
-    let counts = Counts {
-        lanes: lanes.len() as u64,
-        tables: graph.tables(),
-        cells: cells.infos.len() as u64,
-    };
-    let codes = all_code(alloc, steps, counts)?;
-    let held = code(alloc, &values.steps, still_counts(graph))?;
-    let copied = copied_tables(alloc, graph)?;
-    Ok(Plan::new(
-        loops,
-        lanes,
-        copied,
-        cells.infos,
-        codes,
-        told,
-        outputs,
-        held,
-    ))
+    let outputs = graph.outputs();
+    let (surveyed, cells) = survey_graph(alloc, graph, rates)?;
+    planned(alloc, graph, outputs, histories, &surveyed, cells)
 }

@@ -6,6 +6,7 @@ mod graph_parts;
 mod kinds;
 mod lists;
 mod loop_code;
+mod surveyed;
 mod told_reads;
 
 pub use graph_parts::split;

@@ -8,7 +8,7 @@ ghost use Rattle.fv_split_components.specs.headline.Reach.{at};
 ghost use Rattle.fv_analysis.specs.headline.Stands.{stands_of};
 ghost use Rattle.fv_split_plan.specs.headline.Separated.{IsComputed};
 ghost use Rattle.fv_split_lanes.specs.Placed.{ArePlaced};
-ghost use Rattle.fv_split_lanes.specs.inner.Numbered.{AddsSignal, AreNumbered, AreInner};
+ghost use Rattle.fv_split_lanes.specs.inner.Numbered.{AddsSignal, AreNumbered, AreLooped, AreInner};
 
 use crate::home::homes;
 use crate::mark::{is_computed, separated};
@@ -120,6 +120,20 @@ fn inner(
     Ok(inner)
 }
 
+// The lanes of the separated signals, and how many loops there are. Loops are the components that have a lane.
+fn numbered(alloc: Global, graph: &Graph, marks: &[bool]) -> Result<(Numbering, u64), AllocError>
+    requires graph { IsGraph graph.now }
+    requires marks { length marks.now ≡ length graph.now.signals }
+    ensures { IfOk result (λ found. AreLooped graph.now marks.now found.0 found.1) }
+{
+    let links = links(alloc, graph)?;
+    let numbers = components(alloc, &links)?;
+    let ranks = ranks(alloc, &numbers, marks)?;
+    let loops = ranks[marks.len()];
+    let numbering = number(alloc, marks, &numbers, &ranks)?;
+    Ok((numbering, loops))
+}
+
 /// The lanes and loops of a graph, and where each signal is computed.
 pub fn assign_lanes(
     alloc: Global,
@@ -136,12 +150,8 @@ pub fn assign_lanes(
     let reads = reads(alloc, graph, stands)?;
     let readers = readers(alloc, &reads)?;
     let marks = separated(alloc, graph, stands, rates, &readers)?;
-    let links = links(alloc, graph)?;
-    let numbers = components(alloc, &links)?;
-    let ranks = ranks(alloc, &numbers, &marks)?;
-    let loops = ranks[marks.len()];
-    let numbering = number(alloc, &marks, &numbers, &ranks)?;
     let inner = inner(alloc, graph, rates, &marks)?;
+    let (numbering, loops) = numbered(alloc, graph, &marks)?;
     let homes = homes(alloc, &reads, &inner, &numbering.places, loops)?;
     let Numbering {
         lanes,

@@ -5,11 +5,13 @@ use Rattle.fv_signal.specs.declared.rate.Rate.TheVariants as rate
 use Rattle.fv_signal.specs.headline.Value.{Graph}
 use Rattle.fv_signal.specs.headline.Rates.{rate_at}
 use Rattle.fv_split_components.specs.headline.Reach.{at}
+use Rattle.fv_split_components.specs.Reach.{AreComponents}
 use Rattle.fv_analysis.specs.headline.Stands.{node}
-use Rattle.fv_split_plan.specs.headline.Separated.{IsComputed}
+use Rattle.fv_split_plan.specs.headline.Separated.{IsComputed, links_of}
 use Rattle.fv_split_plan.specs.Separated.{lane_at}
 use Rattle.fv_split_lanes.specs.declared.lanes.Numbering.{Numbering}
 use Rattle.fv_split_lanes.specs.inner.Homes.{bit_at}
+use Rattle.fv_split_lanes.specs.inner.Ranks.{AreRanks}
 
 -- one signal more, with a lane of its loop
 pub record AddsLane (old : Numbering) (signal owner : ℕ) (new : Numbering) : Type 0 where
@@ -44,6 +46,15 @@ pub record NumberedUpTo (marks : List Bool) (numbers ranks : List ℕ) (n : ℕ)
 -- all signals are
 abbrev pub AreNumbered : (marks : List Bool) → (numbers ranks : List ℕ) → Numbering → Type 0
 AreNumbered marks numbers ranks p = NumberedUpTo marks numbers ranks (length marks) p
+
+-- the marked signals have lanes in so many loops: those of the components that have a lane
+pub record AreLooped (g : Graph) (marks : List Bool) (p : Numbering) (loops : ℕ) : Type 0 where
+  pub numbers : List ℕ
+  pub ranks : List ℕ
+  pub components : AreComponents (links_of g) (length g.signals) numbers
+  pub ranked : AreRanks numbers marks ranks
+  pub numbered : AreNumbered marks numbers ranks p
+  pub counted : loops ≡ at ranks (length marks)
 
 -- signal s is computed at each sample, and is not marked
 pub record IsInnerBy (g : Graph) (rates : List Rate) (marks : List Bool) (s : ℕ) : Type 0 where

@@ -1,16 +1,14 @@
-use Rattle.std.proofs.Common.{◌≡◌, ◌<◌, [], length, sym, ap, ◌∙◌, subst, arith, All}
-use Rattle.std.proofs.lemmas.List.{get_or_read}
+use Rattle.std.proofs.Common.{[], length, sym, ap, ◌∙◌, subst, arith}
 use Rattle.fv_signal.specs.headline.Rates.{rate_in, rate_at}
 use Rattle.fv_signal.proofs.lemmas.Grown.{length_grown}
 use Rattle.fv_split_components.specs.headline.Reach.{at}
 use Rattle.fv_split_components.specs.Reach.{next_of}
 use Rattle.fv_split_lanes.specs.inner.Rows.{reads_of}
 use Rattle.fv_split_lanes.specs.inner.Homes.{bit_at, AreLower, AreSingle, AreHomes}
-use Rattle.fv_split_lanes.specs.inner.Ranks.{AreRanks}
 use Rattle.fv_split_lanes.specs.inner.Readers.{AreReaders}
-use Rattle.fv_split_lanes.specs.inner.Numbered.{AreNumbered, AreInner}
+use Rattle.fv_split_lanes.specs.inner.Numbered.{AreLooped, AreInner}
 use Rattle.fv_split_lanes.specs.Placed.{ArePlaced}
-use Rattle.fv_split_lanes.proofs.PlaceLemmas.{read_rows, row_links, link_row_links, row_readers, row_components, are_lower, are_single, numbers_within}
+use Rattle.fv_split_lanes.proofs.PlaceLemmas.{read_rows, row_links, row_readers, are_lower, are_single}
 use Rattle.fv_split_lanes.proofs.PlaceLemmas.{are_placed}
 use Rattle.fv_split_lanes.proofs.lanes.assign_lanes.Goals as goal
 
@@ -24,18 +22,6 @@ separated-requires-clause-readers c =
     let n = length g.signals in
     subst (AreReaders (reads_of g) n n) (sym c.deref.ensures.value)
     (row_readers g c.in_ok-reads.reads c.in_ok-readers.readers.items c.in_ok-reads.ensures c.in_ok-readers.ensures)
-
-pub components-requires : goal.components-requires
-components-requires c =
-    link_row_links c.args.graph.now c.requires.graph c.in_ok-links.links c.in_ok-links.ensures
-
-pub ranks-requires-clause-numbers : goal.ranks-requires-clause-numbers
-ranks-requires-clause-numbers c =
-    let g = c.args.graph.now in
-    let numbers = c.in_ok-numbers.numbers.items in
-    let found = row_components g c.in_ok-links.links numbers c.in_ok-links.ensures c.in_ok-numbers.ensures in
-    subst (λ xs. All (λ k. k < length xs) xs) (sym c.deref-2.ensures.value)
-    (subst (λ n. All (λ k. k < n) numbers) (sym found.long) (numbers_within numbers (length g.signals) found.long found.within))
 
 pub inner-requires-clause-rates : goal.inner-requires-clause-rates
 inner-requires-clause-rates c =
@@ -56,8 +42,8 @@ homes-requires-clause-single c =
     let inner = c.in_ok-inner.inner.items in
     let read = row_readers g rows readers c.in_ok-reads.ensures c.in_ok-readers.ensures in
     let inside = subst (λ rs. AreInner g rs marks (length g.signals) inner) c.requires.rates
-    (subst (λ bs. AreInner g c.args.rates.now bs (length g.signals) inner) c.deref-7.ensures.value c.in_ok-inner.ensures) in
-    subst (λ bs. AreSingle (next_of rows) (bit_at bs)) (sym c.deref-8.ensures.value)
+    (subst (λ bs. AreInner g c.args.rates.now bs (length g.signals) inner) c.deref-2.ensures.value c.in_ok-inner.ensures) in
+    subst (λ bs. AreSingle (next_of rows) (bit_at bs)) (sym c.deref-4.ensures.value)
     (subst (λ f. AreSingle f (bit_at inner)) (sym (read_rows g rows c.in_ok-reads.ensures))
     (are_single g c.requires.graph readers marks inner read c.in_ok-marks.ensures inside))
 
@@ -66,27 +52,19 @@ returns c =
     let g = c.args.graph.now in
     let rows = c.in_ok-reads.reads in
     let marks = c.in_ok-marks.marks.items in
-    let numbers = c.in_ok-numbers.numbers.items in
-    let ranks = c.in_ok-ranks.ranks.items in
-    let numbering = c.in_ok-numbering.numbering in
     let inner = c.in_ok-inner.inner.items in
+    let numbering = c.in_ok-numbering.numbering in
+    let loops = c.in_ok-numbering.loops in
     let homes = c.in_ok-homes.homes in
-    let loops = c.index-loops.result.now in
-    let found = row_components g c.in_ok-links.links numbers c.in_ok-links.ensures c.in_ok-numbers.ensures in
-    let ranked = subst (λ xs. AreRanks xs marks ranks) c.deref-2.ensures.value (subst
-    (λ bs. AreRanks c.deref-2.result.now bs ranks) c.deref-3.ensures.value c.in_ok-ranks.ensures) in
-    let last : c.len.result ≡ length marks = omega (arith, c.len.ensures, c.in_ok-marks.marks.ok.0) in
-    let is : loops ≡ at ranks (length marks) =
-    get_or_read ranks c.len.result loops (omega (arith, last, ranked.long, found.long, c.in_ok-marks.ensures.long)) c.index-loops.ensures 0
-    ∙ ap (at ranks) last in
-    let numbered = subst (λ bs. AreNumbered bs numbers ranks numbering) c.deref-4.ensures.value
-    (subst (λ xs. AreNumbered c.deref-4.result.now xs ranks numbering) c.deref-5.ensures.value
-    (subst (λ xs. AreNumbered c.deref-4.result.now c.deref-5.result.now xs numbering) c.deref-6.ensures.value c.in_ok-numbering.ensures)) in
+    let looped = subst (λ bs. AreLooped g bs numbering loops) c.deref-3.ensures.value c.in_ok-numbering.ensures in
     let inside = subst (λ rs. AreInner g rs marks (length g.signals) inner) c.requires.rates
-    (subst (λ bs. AreInner g c.args.rates.now bs (length g.signals) inner) c.deref-7.ensures.value c.in_ok-inner.ensures) in
-    let home = subst (λ f. AreHomes f (bit_at inner) numbering.places.items (at ranks (length marks)) homes.items) (read_rows g rows c.in_ok-reads.ensures)
-    (subst (λ bs. AreHomes (next_of rows) (bit_at bs) numbering.places.items (at ranks (length marks)) homes.items) c.deref-8.ensures.value
-    (subst (λ xs. AreHomes (next_of rows) (bit_at c.deref-8.result.now) xs (at ranks (length marks)) homes.items) c.deref-9.ensures.value
-    (subst (λ k. AreHomes (next_of rows) (bit_at c.deref-8.result.now) c.deref-9.result.now k homes.items) is c.in_ok-homes.ensures))) in
-    subst (λ k. ArePlaced g (record { lanes = numbering.lanes; signals = numbering.signals; owners = numbering.owners; loops = k; homes = homes })) (sym is)
-    (are_placed g c.requires.graph marks inner numbers ranks homes numbering c.in_ok-marks.ensures found ranked numbered inside home)
+    (subst (λ bs. AreInner g c.args.rates.now bs (length g.signals) inner) c.deref-2.ensures.value c.in_ok-inner.ensures) in
+    let last = at looped.ranks (length marks) in
+    let home = subst (λ f. AreHomes f (bit_at inner) numbering.places.items last homes.items) (read_rows g rows c.in_ok-reads.ensures)
+    (subst (λ bs. AreHomes (next_of rows) (bit_at bs) numbering.places.items last homes.items) c.deref-4.ensures.value
+    (subst (λ xs. AreHomes (next_of rows) (bit_at c.deref-4.result.now) xs last homes.items) c.deref-5.ensures.value
+    (subst (λ k. AreHomes (next_of rows) (bit_at c.deref-4.result.now) c.deref-5.result.now k homes.items) looped.counted c.in_ok-homes.ensures))) in
+    subst (λ k. ArePlaced g (record { lanes = numbering.lanes; signals = numbering.signals; owners = numbering.owners; loops = k; homes = homes }))
+    (sym looped.counted)
+    (are_placed g c.requires.graph marks inner looped.numbers looped.ranks homes numbering c.in_ok-marks.ensures looped.components looped.ranked
+    looped.numbered inside home)
