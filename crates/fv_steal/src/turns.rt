@@ -1,6 +1,6 @@
 // One turn of a worker.
 
-ghost use Rattle.std.specs.Prelude.{◌≡◌, ℕ, ◌+◌, ◌<◌, ◌≤◌, ◌==◌, Some, None, true, false, length, vec_capacity, vec_len};
+ghost use Rattle.std.specs.Prelude.{◌≡◌, ℕ, ◌+◌, ◌<◌, ◌≤◌, ◌==◌, Some, None, true, false, [], ◌∷◌, ◌++◌, length, vec_capacity, vec_len};
 ghost use Rattle.fv_outside.specs.headline.Tasks.{bit};
 ghost use Rattle.fv_outside.specs.Tasks.{task_count};
 ghost use Rattle.fv_graph.specs.Graph.{net_of, inward, outward};
@@ -15,7 +15,7 @@ use crate::body::Body;
 use crate::moves::{arrive_all, hand_all, look, receive_all};
 use crate::worker::Worker;
 use fv_graph::{Tasks, edges_meet};
-use fv_outside::{Gate, Line};
+use fv_outside::{Gate, Line, Task};
 use fv_ready::{Board, Parcel, WorkerSeat};
 use std::sync::Wait;
 
@@ -57,6 +57,20 @@ fn run<C: Parcel + Drop, B: Body<C>, G: Gate>(
     (start, finish)
 }
 
+/// Writes the line of a task that a worker ran between these stamps.
+fn write_line(lines: &mut Vec<Line>, number: u32, task: Task, start: u64, finish: u64)
+    requires room { vec_len lines.old < vec_capacity lines.old }
+    ensures line { lines.new.items ≡ lines.old.items ++ (record { task = task; worker = number; start = start; finish = finish }) ∷ [] }
+    ensures room { vec_capacity lines.new ≡ vec_capacity lines.old }
+{
+    lines.push_reserved(Line {
+        task,
+        worker: number,
+        start,
+        finish,
+    });
+}
+
 /// Runs a task whose number the worker took, unless another seat has claimed it.
 pub(crate) fn turn<R: Wait, C: Parcel + Drop, B: Body<C>, G: Gate>(
     rt: &R,
@@ -93,11 +107,7 @@ pub(crate) fn turn<R: Wait, C: Parcel + Drop, B: Body<C>, G: Gate>(
         worker.number,
         t,
     );
-    worker.lines.push_reserved(Line {
-        task: tasks.task(t),
-        worker: worker.number,
-        start,
-        finish,
-    });
+    let task = tasks.task(t);
+    write_line(&mut worker.lines, worker.number, task, start, finish);
     arrive_all(tasks, board, &mut worker.seat, &mut worker.deque, t);
 }

@@ -35,6 +35,14 @@ run-requires-clause-room g c =
     subst (λ (p : Tasks × ℕ). length (outward p.0 p.1) ≤ vec_capacity c.receive_all.new.parcels) (λ i. (sym b.0 i, sym n i))
     (let r = c.requires.room.1 in let k = c.receive_all.ensures.room in omega arith)
 
+pub hand_all-requires-clause-parcels : goal.hand_all-requires-clause-parcels
+hand_all-requires-clause-parcels g c =
+    let b = c.requires.body in
+    let n = at_task c.args.tasks.now.tasks (g.B.Body.tasks c.args.body.now) c.task-task.result c.args.t b.0 c.task-task.ensures in
+    subst (λ k. AreParcelsOf g.C.Parcel.edge_of g.C.Parcel.key_of k (outward c.args.tasks.now.tasks c.args.t) c.run.new.parcels.items) b.1
+    (subst (λ (p : Tasks × ℕ). AreParcelsOf g.C.Parcel.edge_of g.C.Parcel.key_of (g.B.Body.key c.args.body.now)
+    (outward p.0 p.1) c.run.new.parcels.items) (λ i. (b.0 i, n i)) c.run.ensures.outward)
+
 pub returns-clause-spans : goal.returns-clause-spans
 returns-clause-spans g c =
     let started = of_hand _ _ _ c.requires.hand c.stamp-start.ensures.list in

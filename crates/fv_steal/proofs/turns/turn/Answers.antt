@@ -36,8 +36,11 @@ returns-then-not-claim-clause-claimed g c = λ x l.
     (view_of c.claim.new.seat) c.args.t c.claim.result c.look.ensures.looked c.claim.ensures.list
     (claims x) (λ u k. refl)
 
-pub push_reserved-requires : goal.push_reserved-requires
-push_reserved-requires g c =
+pub run-start-requires-clause-wires : goal.run-start-requires-clause-wires
+run-start-requires-clause-wires g c = c.edges_meet.ensures c.args.tasks.now.tasks c.len.ensures.graph
+
+pub write_line-requires : goal.write_line-requires
+write_line-requires g c =
     let w = c.args.worker.now in let h = c.requires.worker in let a = about_of c.args.board.now in
     let fresh = fresh_win g.C.Parcel.edge_of g.C.Parcel.key_of c.args.board.now c.args.tasks.now c.requires.tasks (view_of w.seat)
     (view_of c.look.new.seat) c.args.t
@@ -47,6 +50,9 @@ push_reserved-requires g c =
     let v = c.len.ensures.value in omega arith) in
     let l = line_room a.tasks.value.tasks w.number c.args.t (view_of w.seat) w.lines.items h.journal h.once h.within there fresh in
     let r = h.lines_room in let o = w.lines.ok.0 in omega arith
+
+pub arrive_all-requires-clause-wires : goal.arrive_all-requires-clause-wires
+arrive_all-requires-clause-wires g c = c.edges_meet.ensures c.args.tasks.now.tasks c.len.ensures.graph
 
 pub arrive_all-requires-clause-done : goal.arrive_all-requires-clause-done
 arrive_all-requires-clause-done g c =
@@ -97,10 +103,11 @@ returns-clause-worker g c =
     let p = told_is g.C.Parcel.edge_of g.C.Parcel.key_of b c.args.tasks.now c.requires.tasks in
     let there : t < task_count c.args.tasks.now.tasks = let l = c.if-t-len.false in let v = c.len.ensures.value in omega arith in
     let there' = subst (λ (k : Graph). t < task_count k.tasks) (sym p) there in
-    let task : c.task.result ≡ task_of a.tasks.value.tasks t = c.task.ensures ∙ ap (λ (k : Graph). task_of k.tasks t) (sym p) in
+    let task : c.task-task.result ≡ task_of a.tasks.value.tasks t = c.task-task.ensures ∙ ap (λ (k : Graph). task_of k.tasks t) (sym p) in
     let v3 = c.run-start.ensures.list ∙ ap (λ (u : View _). noted (noted u (Stamped s t true)) (Stamped f t false))
     (c.claim.ensures.list ∙ ap (λ r. noted saw (Claimed t r)) c.if-not-claim.false) in
-    worker_after g.C.Parcel.edge_of g.C.Parcel.key_of (name_of b) a t s f saw (record { task = c.task.result; worker = w.number; start = s; finish = f }) w _
+    worker_after g.C.Parcel.edge_of g.C.Parcel.key_of (name_of b) a t s f saw
+    (record { task = c.task-task.result; worker = w.number; start = s; finish = f }) w _
     (subst (λ (k : Graph). IsWires (wires_of k.tasks)) (sym p) (c.edges_meet.ensures c.args.tasks.now.tasks c.len.ensures.graph)) there' h (record {
       turn = subst (λ (k : Graph). IsTurn k.tasks t s f (view_of w.seat) saw (view_of c.arrive_all.new.seat)) (sym p) (turned g c);
       seat = c.arrive_all.ensures.seat;
@@ -113,13 +120,13 @@ returns-clause-worker g c =
       between = subst (λ (q : Graph × View _). PutBetween (net_of q.0.tasks) q.1 (view_of c.arrive_all.new.seat) (account_of w.deque).put
           (account_of c.arrive_all.new.deque).put)
           (λ i. (sym p i, v3 i)) c.arrive_all.ensures.between;
-      lines = c.push_reserved.ensures.items;
+      lines = c.write_line.ensures.line;
       stamps = (refl, refl, c.run-start.ensures.spans);
       task = task;
-      inside = inside_of a.tasks.value.tasks (told_graph b) t there' c.task.result task;
+      inside = inside_of a.tasks.value.tasks (told_graph b) t there' c.task-task.result task;
       who = refl;
       room = c.arrive_all.ensures.deque.1;
-      lines_room = let k = c.push_reserved.ensures.capacity in omega arith;
+      lines_room = let k = c.write_line.ensures.room in omega arith;
       parcels_room = c.run-start.ensures.room;
       no_parcels = no_items c.run-start.new.parcels.items (let k = c.run-start.ensures.none in let o = c.run-start.new.parcels.ok.0 in omega arith);
     })
