@@ -1,22 +1,14 @@
 -- What holds where a block begins.
-use Rattle.std.proofs.Common.{◌≡◌, ℕ, ◌+◌, ◌-◌, min, ◌≤◌, List, length, take, sym, ap, ◌∙◌, arith, ℤ, nat_lt, lt-ltb}
+use Rattle.std.proofs.Common.{◌≡◌, ℕ, ◌+◌, ◌-◌, min, ◌≤◌, List, sym, ap, ◌∙◌, arith, ℤ, nat_lt, lt-ltb}
 use Rattle.std.proofs.lemmas.Bool.{cond-true}
 use Rattle.fv_num.specs.headline.Words.{argument}
 use Rattle.fv_control.specs.declared.script.Change.{Change}
-use Rattle.fv_control.specs.Laws.{Held, Hold, applied}
+use Rattle.fv_control.specs.Laws.{Held, Hold}
 use Rattle.fv_control.specs.headline.Streams.{control_streams}
 use Rattle.fv_engine.specs.Stands.{AreGiven, EngineView, SameParts}
-use Rattle.fv_engine_render.specs.headline.Blocks.{block_at}
-use Rattle.fv_engine_render.specs.Blocks.{AreNext}
 use Rattle.fv_engine_render.specs.headline.Runs.{loops_in}
+use Rattle.fv_engine_render.specs.inner.Runs.{BlockBegins}
 use Rattle.fv_engine_render.proofs.Cuts.{none_between}
-
--- a block of n frames begins at frame f, when the changes up to the next one are in the controls' numbers
-pub record BlockBegins (changes : List Change) (initial values : List ℤ) (f n next block total : ℕ) : Type 0 where
-  pub here : AreNext changes f next
-  pub is : values ≡ applied initial (take next changes)
-  pub long : length values ≡ length initial
-  pub cut : n ≡ block_at block total changes f
 
 -- the controls have these numbers in it
 pub given : {changes : List Change} {initial values : List ℤ} {f n next block total : ℕ} → Held → Hold

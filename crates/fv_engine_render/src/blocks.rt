@@ -1,5 +1,7 @@
 // The sizes of a run, and what is counted of it.
 
+ghost use Rattle.std.specs.Prelude.{◌≡◌, ◌+◌, ◌<◌, ◌^◌};
+
 /// The frames of a run, how many of them a block and a vector have at most, and how many workers may run it.
 #[derive(Clone, Copy)]
 pub struct RunSizes {
@@ -7,6 +9,14 @@ pub struct RunSizes {
     pub block: u32,
     pub vector: u32,
     pub workers: u32,
+}
+
+/// The loops of a plan, and how many numbers a frame of its input and of its output has.
+#[derive(Clone, Copy)]
+pub(crate) struct PlanSizes {
+    pub(crate) loops: u64,
+    pub(crate) channels: usize,
+    pub(crate) outputs: usize,
 }
 
 /// What ran: how many blocks, the loops of the plan, 0 where there was no block, and how often a loop ran over a vector.
@@ -17,10 +27,17 @@ pub struct Ran {
     pub loop_runs: u128,
 }
 
-/// The loops of a plan, and how many numbers a frame of its input and of its output has.
-#[derive(Clone, Copy)]
-pub(crate) struct PlanSizes {
-    pub(crate) loops: u64,
-    pub(crate) channels: usize,
-    pub(crate) outputs: usize,
+impl Ran {
+    /// With one block more, in which loops of this plan ran so often.
+    pub(crate) fn and_block(self, plan: &PlanSizes, tasks: u64) -> Ran
+        requires blocks { self.blocks + 1 < 2 ^ 64 }
+        requires runs { self.loop_runs + tasks < 2 ^ 128 }
+        ensures { result ≡ record { blocks = self.blocks + 1; loops = plan.now.loops; loop_runs = self.loop_runs + tasks } }
+    {
+        Ran {
+            blocks: self.blocks + 1,
+            loops: plan.loops,
+            loop_runs: self.loop_runs + u128::from(tasks),
+        }
+    }
 }

@@ -16,8 +16,8 @@ ghost use Rattle.fv_engine_render.specs.inner.Stopping.{HasStopped};
 
 use crate::blocks::{PlanSizes, Ran, RunSizes};
 use crate::controls::numbers_fit;
-use crate::cut::next_block;
-use fv_control::{Change, controls_hold, listen, values_held};
+use crate::cut::begin_block;
+use fv_control::{Change, controls_hold, values_held};
 use fv_engine::Engine;
 use fv_outside::Gate;
 use fv_signal::values_look_back;
@@ -83,8 +83,8 @@ pub(crate) fn play_tape<R: Threads + Wait + Sync, G: Gate + Sync, W, T: Tape<W>>
     let mut frame = 0u32;
     let mut next = 0;
     'playing: while frame < sizes.frames {
-        next = listen(changes, next, frame as usize, values);
-        let frames = next_block(sizes.block, sizes.frames, changes, next, frame);
+        let (behind, frames) = begin_block(sizes, changes, next, frame, values);
+        next = behind;
         let input = &mut heard[..frames as usize * plan.channels];
         match tape.hear(world, frames, input) {
             Ok(()) => {}
@@ -93,11 +93,7 @@ pub(crate) fn play_tape<R: Threads + Wait + Sync, G: Gate + Sync, W, T: Tape<W>>
         numbers_fit(input);
         let output = &mut said[..frames as usize * plan.outputs];
         let report = engine.run_block(rt, alloc, frames, input, values, output, gate);
-        ran = Ran {
-            blocks: ran.blocks + 1,
-            loops: plan.loops,
-            loop_runs: ran.loop_runs + u128::from(report.tasks),
-        };
+        ran = ran.and_block(plan, report.tasks);
         match tape.say(world, frames, output) {
             Ok(()) => {}
             Err(stop) => return Err(stop),

@@ -147,7 +147,7 @@ pub fn render_tape<R: Threads + Wait + Sync, G: Gate + Sync, W, T: Tape<W>>(
         channels: played.inputs as usize,
         outputs: played.outputs as usize,
     };
-    play_tape(
+    let ran = play_tape(
         rt,
         alloc,
         &mut ready.engine,
@@ -160,5 +160,8 @@ pub fn render_tape<R: Threads + Wait + Sync, G: Gate + Sync, W, T: Tape<W>>(
         tape,
         world,
         gate,
-    )
+    );
+    // Written out, so that all that is ready is let go of by the function that every owner of it shares.
+    drop(ready);
+    ran
 }

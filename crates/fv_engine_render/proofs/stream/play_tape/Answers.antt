@@ -1,4 +1,4 @@
-use Rattle.std.proofs.Common.{◌≡◌, ℕ, ◌+◌, ◌*◌, ◌<◌, [], ◌++◌, length, take, drop, refl, sym, ap, subst, ◌∙◌, arith, rules, length-append}
+use Rattle.std.proofs.Common.{◌≡◌, ℕ, ◌+◌, ◌*◌, ◌<◌, [], ◌++◌, length, take, drop, refl, sym, ap, subst, ◌∙◌, arith, rules, length-append, ◌≤◌, List, ℤ}
 use Rattle.std.proofs.Common.{length-drop}
 use Rattle.std.specs.List.{AllByRecursion}
 use Rattle.std.proofs.Math.Seq.{length-take-le}
@@ -7,12 +7,12 @@ use Rattle.fv_control.specs.headline.Streams.{control_streams}
 use Rattle.fv_tape.specs.Acts.{Hearing, Saying}
 use Rattle.fv_split_plan.specs.Code.{NamesHeld}
 use Rattle.fv_engine.specs.Stands.{EngineView}
-use Rattle.fv_engine_render.specs.Blocks.{AreNext}
-use Rattle.fv_engine_render.specs.inner.Runs.{PlaysAll}
+use Rattle.fv_engine_render.specs.inner.Runs.{BlockBegins, PlaysAll}
+use Rattle.fv_engine_render.specs.declared.blocks.Ran.{Ran}
 use Rattle.fv_engine_render.proofs.Cuts.{come_later}
-use Rattle.fv_engine_render.proofs.Playing.{BlockBegins, given}
+use Rattle.fv_engine_render.proofs.Playing.{given}
 use Rattle.fv_engine_render.proofs.Stopping.{stops_first, stops}
-use Rattle.fv_engine_render.proofs.Streaming.{Block, Come, Start, block_more, streamed_none, rows_fit}
+use Rattle.fv_engine_render.proofs.Streaming.{Block, Come, Start, Streamed, block_more, streamed_none, rows_fit}
 use Rattle.fv_engine_render.proofs.Told.{still_told}
 use Rattle.fv_engine_render.proofs.stream.play_tape.Goals as goal
 
@@ -40,47 +40,96 @@ playing-init g c =
       streamed = streamed_none _ (λ h s st. st);
     }
 
-pub listen-next-requires-clause-named : goal.listen-next-requires-clause-named
-listen-next-requires-clause-named g c =
+pub begin_block-behind-requires-clause-named : goal.begin_block-behind-requires-clause-named
+begin_block-behind-requires-clause-named g c =
     subst (λ (n : ℕ). AllByRecursion (λ (x : Change). x.control < n) c.args.changes.now) (sym c.playing.invariant.listened.count) c.requires.named
+
+-- the numbers of a block's frames lie within the room for the longest block
+within_room : (n block width : ℕ) (xs : List ℤ) → n ≤ block → length xs ≡ block * width → n * width ≤ length xs
+within_room n block width xs short room = let fit = rows_fit n block width short in omega (arith, fit, room)
+
+-- so many are taken of it
+taken_long : (n block width : ℕ) (xs : List ℤ) → n ≤ block → length xs ≡ block * width → length (take (n * width) xs) ≡ n * width
+taken_long n block width xs short room = length-take-le (n * width) xs (within_room n block width xs short room)
+
+pub slice_bounds-input-end : goal.slice_bounds-input-end
+slice_bounds-input-end g c =
+    within_room c.begin_block-behind.result.1 c.args.sizes.now.block c.args.plan.now.channels c.playing.heard c.begin_block-behind.ensures.short
+    c.playing.invariant.heard_room
+
+pub slice_bounds-input-end-in-playing : goal.slice_bounds-input-end-in-playing
+slice_bounds-input-end-in-playing g c =
+    sym (taken_long c.begin_block-behind.result.1 c.args.sizes.now.block c.args.plan.now.channels c.playing.heard c.begin_block-behind.ensures.short
+    c.playing.invariant.heard_room)
+
+pub hear-requires-clause-room : goal.hear-requires-clause-room
+hear-requires-clause-room g c =
+    let n = c.begin_block-behind.result.1 in
+    taken_long n c.args.sizes.now.block c.args.plan.now.channels c.playing.heard c.begin_block-behind.ensures.short c.playing.invariant.heard_room
+    ∙ ap (λ (k : ℕ). n * k) (sym c.playing.invariant.ears)
+
+pub slice_bounds-output-end : goal.slice_bounds-output-end
+slice_bounds-output-end g c =
+    within_room c.begin_block-behind.result.1 c.args.sizes.now.block c.args.plan.now.outputs c.playing.said c.begin_block-behind.ensures.short
+    c.playing.invariant.said_room
+
+pub slice_bounds-output-end-in-playing : goal.slice_bounds-output-end-in-playing
+slice_bounds-output-end-in-playing g c =
+    sym (taken_long c.begin_block-behind.result.1 c.args.sizes.now.block c.args.plan.now.outputs c.playing.said c.begin_block-behind.ensures.short
+    c.playing.invariant.said_room)
+
+pub run_block-report-requires-clause-frames : goal.run_block-report-requires-clause-frames
+run_block-report-requires-clause-frames g c κs within =
+    let short = c.begin_block-behind.ensures.short in
+    let same = ap (λ (v : EngineView). v.block) c.playing.invariant.streamed.same in
+    let block = c.requires.sizes.0 in (c.begin_block-behind.ensures.some, omega (arith, short, same, block))
+
+pub run_block-report-requires-clause-input : goal.run_block-report-requires-clause-input
+run_block-report-requires-clause-input g c κs within =
+    let n = c.begin_block-behind.result.1 in
+    c.hear.auto.to
+    ∙ taken_long n c.args.sizes.now.block c.args.plan.now.channels c.playing.heard c.begin_block-behind.ensures.short c.playing.invariant.heard_room
+    ∙ ap (λ (k : ℕ). n * k) (c.requires.plan.channels ∙ sym (ap (λ (v : EngineView). v.channels) c.playing.invariant.streamed.same))
+
+pub run_block-report-requires-clause-output : goal.run_block-report-requires-clause-output
+run_block-report-requires-clause-output g c κs within =
+    let n = c.begin_block-behind.result.1 in
+    taken_long n c.args.sizes.now.block c.args.plan.now.outputs c.playing.said c.begin_block-behind.ensures.short c.playing.invariant.said_room
+    ∙ ap (λ (k : ℕ). n * k) (c.requires.plan.outputs ∙ sym (ap (λ (v : EngineView). length v.plan.outputs) c.playing.invariant.streamed.same))
+
+pub say-requires-clause-room : goal.say-requires-clause-room
+say-requires-clause-room g c =
+    let n = c.begin_block-behind.result.1 in
+    c.run_block-report.auto.output
+    ∙ taken_long n c.args.sizes.now.block c.args.plan.now.outputs c.playing.said c.begin_block-behind.ensures.short c.playing.invariant.said_room
+    ∙ ap (λ (k : ℕ). n * k) (sym (c.hear.ensures.mouth ∙ c.playing.invariant.mouth))
 
 pub run_block-report-requires-clause-controls : goal.run_block-report-requires-clause-controls
 run_block-report-requires-clause-controls g c κs within =
     let i = c.playing.invariant in
-    λ k h. subst (λ n. k < n) (sym (c.listen-next.auto.values ∙ i.listened.count))
+    let begins = c.begin_block-behind.ensures.begins c.args.values.now i.listened.changed i.listened.count in
+    λ k h. subst (λ n. k < n) (sym begins.long)
     (c.requires.controls k (subst (λ (x : EngineView). NamesHeld x.plan.held k) i.streamed.same h))
 
 pub returns-in-Err-hear-clause-stops : goal.returns-in-Err-hear-clause-stops
 returns-in-Err-hear-clause-stops g c =
     let i = c.playing.invariant in
-    let n = c.next_block-frames.result in
-    stops i.streamed c.requires.plan.outputs _ i.all (Hearing n) (c.playing-test.true, c.next_block-frames.ensures.length, refl)
+    let n = c.begin_block-behind.result.1 in
+    let begins = c.begin_block-behind.ensures.begins c.args.values.now i.listened.changed i.listened.count in
+    stops i.streamed c.requires.plan.outputs _ i.all (Hearing n) (c.playing-test.true, begins.cut, refl)
     (c.in-Err-hear.ensures.err c.args.tape.now c.args.world.now i.heard i.all i.went)
 
 pub returns-in-Err-say-clause-stops : goal.returns-in-Err-say-clause-stops
 returns-in-Err-say-clause-stops g c =
     let i = c.playing.invariant in
     let told = g.G.Gate.told in
-    let n = c.next_block-frames.result in
+    let n = c.begin_block-behind.result.1 in
     let f = c.playing.frame in let cs = c.args.changes.now in let start = c.args.values.now in let sizes = c.args.sizes.now in
-    let piece = c.hear.new.to in let out = c.run_block-report.new.output in let values = c.listen-next.new.values in
-    let heard_long = i.heard_room in let said_long = i.said_room in
+    let piece = c.hear.new.to in let out = c.run_block-report.new.output in let values = c.begin_block-behind.new.values in
     let ch = c.args.plan.now.channels in let w = c.args.plan.now.outputs in
-    let short = c.next_block-frames.ensures.short in
-    let fit = rows_fit n sizes.block ch short in
-    let wit = rows_fit n sizes.block w short in
-    let here : AreNext cs f c.listen-next.result = record {
-      within = c.listen-next.ensures.within;
-      come = c.listen-next.ensures.come i.listened.come;
-      behind = c.listen-next.ensures.behind c.requires.order;
-      order = c.requires.order;
-    } in
-    let begins : BlockBegins cs start values f n c.listen-next.result sizes.block sizes.frames = record {
-      here = here;
-      is = c.listen-next.ensures.values start i.listened.changed;
-      long = c.listen-next.auto.values ∙ i.listened.count;
-      cut = c.next_block-frames.ensures.length;
-    } in
+    let short = c.begin_block-behind.ensures.short in
+    let begins : BlockBegins cs start values f n c.begin_block-behind.result.0 sizes.block sizes.frames =
+    c.begin_block-behind.ensures.begins start i.listened.changed i.listened.count in
     let b : Start = record { engine = c.args.engine.now; sizes = sizes; outputs = w; changes = cs; initial = start; told = told c.args.gate.now } in
     let r : Come = record { engine = c.playing.engine; frame = f; ran = c.playing.ran; told = told c.playing.gate; heard = i.heard; all = i.all } in
     let block : Block b r c.run_block-report.new.self (told c.run_block-report.new.gate) n c.run_block-report.result.tasks piece values out = record {
@@ -88,12 +137,12 @@ returns-in-Err-say-clause-stops g c =
       outputs = c.requires.plan.outputs;
       vector = c.requires.sizes.1;
       here = c.playing-test.true;
-      cut = c.next_block-frames.ensures.length;
-      some = c.next_block-frames.ensures.some;
-      inside = c.next_block-frames.ensures.inside;
-      part = c.hear.auto.to ∙ length-take-le (n * ch) c.playing.heard (omega (arith, fit, heard_long)) ∙ ap (λ (k : ℕ). n * k) c.requires.plan.channels;
+      cut = begins.cut;
+      some = c.begin_block-behind.ensures.some;
+      inside = c.begin_block-behind.ensures.inside;
+      part = c.hear.auto.to ∙ taken_long n sizes.block ch c.playing.heard short i.heard_room ∙ ap (λ (k : ℕ). n * k) c.requires.plan.channels;
       fit = c.numbers_fit.ensures;
-      wide = c.run_block-report.auto.output ∙ length-take-le (n * w) c.playing.said (omega (arith, wit, said_long));
+      wide = c.run_block-report.auto.output ∙ taken_long n sizes.block w c.playing.said short i.said_room;
       same = c.run_block-report.ensures.same;
       on = c.run_block-report.ensures.goes_on;
       given = given c.values_held.ensures c.controls_hold.ensures begins;
@@ -110,38 +159,28 @@ pub playing-preserved : goal.playing-preserved
 playing-preserved g c =
     let i = c.playing.invariant in
     let told = g.G.Gate.told in
-    let n = c.next_block-frames.result in
+    let n = c.begin_block-behind.result.1 in
     let f = c.playing.frame in let cs = c.args.changes.now in let start = c.args.values.now in let sizes = c.args.sizes.now in
-    let piece = c.hear.new.to in let out = c.run_block-report.new.output in let values = c.listen-next.new.values in
+    let piece = c.hear.new.to in let out = c.run_block-report.new.output in let values = c.begin_block-behind.new.values in
     let heard_long = i.heard_room in let said_long = i.said_room in
     let ch = c.args.plan.now.channels in let w = c.args.plan.now.outputs in
-    let short = c.next_block-frames.ensures.short in
+    let short = c.begin_block-behind.ensures.short in
     let fit = rows_fit n sizes.block ch short in
     let wit = rows_fit n sizes.block w short in
-    let piece_long : length piece ≡ n * ch = c.hear.auto.to ∙ length-take-le (n * ch) c.playing.heard (omega (arith, fit, heard_long)) in
-    let out_long : length out ≡ n * w = c.run_block-report.auto.output ∙ length-take-le (n * w) c.playing.said (omega (arith, wit, said_long)) in
-    let here : AreNext cs f c.listen-next.result = record {
-      within = c.listen-next.ensures.within;
-      come = c.listen-next.ensures.come i.listened.come;
-      behind = c.listen-next.ensures.behind c.requires.order;
-      order = c.requires.order;
-    } in
-    let begins : BlockBegins cs start values f n c.listen-next.result sizes.block sizes.frames = record {
-      here = here;
-      is = c.listen-next.ensures.values start i.listened.changed;
-      long = c.listen-next.auto.values ∙ i.listened.count;
-      cut = c.next_block-frames.ensures.length;
-    } in
+    let piece_long : length piece ≡ n * ch = c.hear.auto.to ∙ taken_long n sizes.block ch c.playing.heard short heard_long in
+    let out_long : length out ≡ n * w = c.run_block-report.auto.output ∙ taken_long n sizes.block w c.playing.said short said_long in
+    let begins : BlockBegins cs start values f n c.begin_block-behind.result.0 sizes.block sizes.frames =
+    c.begin_block-behind.ensures.begins start i.listened.changed i.listened.count in
     let b : Start = record { engine = c.args.engine.now; sizes = sizes; outputs = w; changes = cs; initial = start; told = told c.args.gate.now } in
     let r : Come = record { engine = c.playing.engine; frame = f; ran = c.playing.ran; told = told c.playing.gate; heard = i.heard; all = i.all } in
-    let block : Block b r c.run_block-report.new.self (told c.run_block-report.new.gate) n c.from.result piece values out = record {
+    let block : Block b r c.run_block-report.new.self (told c.run_block-report.new.gate) n c.run_block-report.result.tasks piece values out = record {
       look = c.values_look_back.ensures;
       outputs = c.requires.plan.outputs;
       vector = c.requires.sizes.1;
       here = c.playing-test.true;
-      cut = c.next_block-frames.ensures.length;
-      some = c.next_block-frames.ensures.some;
-      inside = c.next_block-frames.ensures.inside;
+      cut = begins.cut;
+      some = c.begin_block-behind.ensures.some;
+      inside = c.begin_block-behind.ensures.inside;
       part = piece_long ∙ ap (λ (k : ℕ). n * k) c.requires.plan.channels;
       fit = c.numbers_fit.ensures;
       wide = out_long;
@@ -150,7 +189,7 @@ playing-preserved g c =
       given = given c.values_held.ensures c.controls_hold.ensures begins;
       told = c.run_block-report.ensures.told;
       room = c.run_block-report.ensures.room;
-      count = c.from.ensures ∙ c.run_block-report.ensures.tasks;
+      count = c.run_block-report.ensures.tasks;
       small = search rules;
     } in
     let a = c.hear.ensures in let d = c.say.ensures in
@@ -160,8 +199,8 @@ playing-preserved g c =
     let left = i.left in let left_heard = c.in-Ok-hear.ensures.left in let left_said = d.left in
     record {
       listened = record {
-        there = c.listen-next.ensures.within;
-        come = come_later (take c.listen-next.result cs) f (f + n) (omega arith) here.come;
+        there = begins.here.within;
+        come = come_later (take c.begin_block-behind.result.0 cs) f (f + n) (omega arith) begins.here.come;
         changed = begins.is;
         count = begins.long;
       };
@@ -176,7 +215,14 @@ playing-preserved g c =
       all = i.all ++ out;
       went = c.in-Ok-say.ensures.ok c.args.tape.now c.args.world.now (i.heard ++ piece) i.all
           (c.in-Ok-hear.ensures.ok c.args.tape.now c.args.world.now i.heard i.all i.went);
-      streamed = block_more c.args.plan.now.loops c.requires.plan.loops i.streamed block;
+      streamed = subst (λ (x : Ran). Streamed b (record {
+        engine = c.run_block-report.new.self;
+        frame = f + n;
+        ran = x;
+        told = told c.run_block-report.new.gate;
+        heard = i.heard ++ piece;
+        all = i.all ++ out;
+      })) (sym c.and_block-ran.ensures) (block_more c.args.plan.now.loops c.requires.plan.loops i.streamed block);
     }
 
 pub returns-clause-samples : goal.returns-clause-samples

@@ -1,14 +1,60 @@
-use Rattle.std.proofs.Common.{◌≡◌, ℕ, ◌+◌, ◌*◌, ◌/◌, ◌^◌, ◌<◌, ◌++◌, length-take-le, Some, None, length, drop, sym, ap, ap₂, subst, ◌∙◌, arith}
+use Rattle.std.proofs.Common.{List, ◌≡◌, ℕ, ◌+◌, ◌-◌, ◌≤◌, ◌*◌, ◌/◌, ◌^◌, ◌<◌, ◌++◌, length-take-le, Some, None, length, drop, sym, ap, ap₂, subst, ◌∙◌, arith}
 use Rattle.std.specs.Prelude.{option_map}
+use Rattle.std.specs.Vec.{with_items}
 use Rattle.fv_pcm.specs.Coded.{samples_in}
 use Rattle.fv_pcm.specs.headline.Sizes.{frame_size}
-use Rattle.fv_file_tape.specs.Tapes.{CannotHear, IsInput, Streamed, channels_of, files_of}
+use Rattle.fv_file_tape.specs.declared.file_tape.FileTape.{FileTape}
+use Rattle.fv_file_tape.specs.Tapes.{CannotHear, IsInput, IsTape, Streamed, channels_of, files_of}
 use Rattle.fv_file_tape.specs.inner.Tapes.{Misses}
 use Rattle.fv_file_tape.proofs.lemmas.Heard.{room_is}
 use Rattle.fv_file_tape.proofs.Streams.{heard_on, heard_stops, held_on, nothing_heard, behind_fits, asked_within}
 use Rattle.fv_file_tape.proofs.file_tape.FileTapeTape.hear.Given.{Over}
 use Rattle.fv_file_tape.proofs.file_tape.FileTapeTape.hear.Goals as goal
 use Rattle.fv_file_tape.proofs.file_tape.FileTapeTape.hear.Goals.{After-from-in-None-held}
+
+-- so many frames more were heard
+heard_more : (t : FileTape) (n : ℕ) → IsTape t → n ≤ t.stated - t.done → IsTape (record t { done = t.done + n })
+heard_more t n v there =
+    let done = v.done in
+    record {
+      input = v.input;
+      stated = v.stated;
+      held = v.held;
+      done = omega (arith, there, done);
+      some = v.some;
+      few = v.few;
+      bits = v.bits;
+      size = v.size;
+      ears = v.ears;
+      mouth = v.mouth;
+    }
+
+-- the bytes that it reads through keep their length
+read_through : (t : FileTape) (xs : List ℕ) → IsTape t → IsTape (record t { bytes = with_items t.bytes xs })
+read_through t xs v =
+    let long : length t.bytes.items ≡ length (with_items t.bytes xs).items = sym t.bytes.ok.0 ∙ (with_items t.bytes xs).ok.0 in
+    record {
+      input = v.input;
+      stated = v.stated;
+      held = v.held;
+      done = v.done;
+      some = v.some;
+      few = v.few;
+      bits = v.bits;
+      size = v.size;
+      ears = λ i is. subst (λ n. t.most * i.channels * (i.bits / 8) ≤ n) long (v.ears i is);
+      mouth = subst (λ n. t.most * t.head.channels * (t.head.bits / 8) ≤ n) long v.mouth;
+    }
+
+-- once so many are done, so many fewer are left
+left_is : (stated done n : ℕ) → n ≤ stated - done → (stated - (done + n)) + n ≡ stated - done
+left_is stated done n there = omega (arith, there)
+
+pub returns-in-None-clause-valid : goal.returns-in-None-clause-valid
+returns-in-None-clause-valid g c = heard_more c.args.self.now c.args.frames c.requires.valid c.requires.there
+
+pub returns-in-None-clause-left : goal.returns-in-None-clause-left
+returns-in-None-clause-left g c = left_is c.args.self.now.stated c.args.self.now.done c.args.frames c.requires.there
 
 pub returns-in-None-clause-ok : goal.returns-in-None-clause-ok
 returns-in-None-clause-ok g c first start h s w =
@@ -33,6 +79,12 @@ decode_behind-requires-clause-there g c =
     let enough = c.requires.valid.held i c.in-Some.is c.in-Some-held.held c.in-Some-held.is in
     let long = ap length c.deref.ensures.value in
     omega (arith, within, enough, long)
+
+pub returns-in-Some-held-clause-valid : goal.returns-in-Some-held-clause-valid
+returns-in-Some-held-clause-valid g c = heard_more c.args.self.now c.args.frames c.requires.valid c.requires.there
+
+pub returns-in-Some-held-clause-left : goal.returns-in-Some-held-clause-left
+returns-in-Some-held-clause-left g c = left_is c.args.self.now.stated c.args.self.now.done c.args.frames c.requires.there
 
 pub returns-in-Some-held-clause-ok : goal.returns-in-Some-held-clause-ok
 returns-in-Some-held-clause-ok g c first start h s w =
@@ -99,6 +151,17 @@ read_samples-requires-clause-room g c =
     let fits = room_is c.args.frames t.most i.channels (i.bits / 8) (length c.args.to.now) (length t.bytes.items) c.requires.few
     (c.requires.room ∙ ap (λ o. c.args.frames * channels_of o) c.in-Some.is) (c.requires.valid.ears i c.in-Some.is) in
     length-take-le (length c.args.to.now * (i.bits / 8)) c.deref_mut.result.now (omega (arith, fits, long))
+
+pub returns-in-Ok-clause-valid : goal.returns-in-Ok-clause-valid
+returns-in-Ok-clause-valid g c =
+    let t = c.args.self.now in
+    heard_more (record t { bytes = with_items t.bytes _ }) c.args.frames (read_through t _ c.requires.valid) c.requires.there
+
+pub returns-in-Err-clause-valid : goal.returns-in-Err-clause-valid
+returns-in-Err-clause-valid g c = read_through c.args.self.now _ c.requires.valid
+
+pub returns-in-Ok-clause-left : goal.returns-in-Ok-clause-left
+returns-in-Ok-clause-left g c = left_is c.args.self.now.stated c.args.self.now.done c.args.frames c.requires.there
 
 pub returns-in-Ok-clause-ok : goal.returns-in-Ok-clause-ok
 returns-in-Ok-clause-ok g c first start h s w =
