@@ -40,71 +40,62 @@ impl Refusal {
 fn row_of(refusal: &Refusal) -> Row<'_>
     ensures { row_of refusal.now ≡ shown result }
 {
-    match refusal {
-        No::Usage { cause } => row(1, USAGE, "Usage", word(cause_name(*cause))),
-        No::ReadFault { role } => row(2, FAULT, "ReadFault", word(role_name(*role))),
-        No::WriteFault { role } => row(3, FAULT, "WriteFault", word(role_name(*role))),
-        No::TextTooLong { role } => row(
-            4,
-            text_status(*role),
-            "TextTooLong",
-            word(role_name(*role)),
-        ),
-        No::BadByte { line, column } => program(5, "BadByte", place(*line, *column)),
-        No::Unclosed { line, column } => program(6, "Unclosed", place(*line, *column)),
-        No::RealLiteral { line, column } => program(7, "RealLiteral", place(*line, *column)),
-        No::LiteralTooLarge { line, column } => program(
-            8,
-            "LiteralTooLarge",
-            place(*line, *column),
-        ),
-        No::Syntax { line, column } => program(9, "Syntax", place(*line, *column)),
-        No::Unsupported { word } => program(10, "Unsupported", text(word.bytes())),
-        No::Redefined { name } => program(11, "Redefined", text(name.bytes())),
-        No::RepeatedName { name } => program(12, "RepeatedName", text(name.bytes())),
-        No::RuleWidths { line, column } => program(13, "RuleWidths", place(*line, *column)),
+    match *refusal {
+        No::Usage { cause } => row(1, USAGE, "Usage", word(cause_name(cause))),
+        No::ReadFault { role } => row(2, FAULT, "ReadFault", word(role_name(role))),
+        No::WriteFault { role } => row(3, FAULT, "WriteFault", word(role_name(role))),
+        No::TextTooLong { role } => row(4, text_status(role), "TextTooLong", word(role_name(role))),
+        No::BadByte { line, column } => at(5, "BadByte", line, column),
+        No::Unclosed { line, column } => at(6, "Unclosed", line, column),
+        No::RealLiteral { line, column } => at(7, "RealLiteral", line, column),
+        No::LiteralTooLarge { line, column } => at(8, "LiteralTooLarge", line, column),
+        No::Syntax { line, column } => at(9, "Syntax", line, column),
+        No::Unsupported { ref word } => named(10, "Unsupported", word.bytes()),
+        No::Redefined { ref name } => named(11, "Redefined", name.bytes()),
+        No::RepeatedName { ref name } => named(12, "RepeatedName", name.bytes()),
+        No::RuleWidths { line, column } => at(13, "RuleWidths", line, column),
         No::NoProcess => program(14, "NoProcess", Fields::None),
-        No::SizeBudget { size } => program(15, "SizeBudget", natural(u64::from(*size))),
-        No::Arity { kind, left, right } => program(16, "Arity", arity(*kind, *left, *right)),
-        No::UnknownName { name } => program(17, "UnknownName", text(name.bytes())),
-        No::NotANumber { line, column } => program(18, "NotANumber", place(*line, *column)),
-        No::IterationCount { count } => program(19, "IterationCount", integer(*count)),
-        No::NoRule { line, column } => program(20, "NoRule", place(*line, *column)),
-        No::NotADiagram { line, column } => program(21, "NotADiagram", place(*line, *column)),
+        No::SizeBudget { size } => program(15, "SizeBudget", natural(u64::from(size))),
+        No::Arity { kind, left, right } => program(16, "Arity", arity(kind, left, right)),
+        No::UnknownName { ref name } => named(17, "UnknownName", name.bytes()),
+        No::NotANumber { line, column } => at(18, "NotANumber", line, column),
+        No::IterationCount { count } => program(19, "IterationCount", integer(count)),
+        No::NoRule { line, column } => at(20, "NoRule", line, column),
+        No::NotADiagram { line, column } => at(21, "NotADiagram", line, column),
         No::TooManyArguments { given, inputs } => program(
             22,
             "TooManyArguments",
-            pair(*given, *inputs),
+            pair(given, inputs),
         ),
         No::EvalBudget => program(23, "EvalBudget", Fields::None),
-        No::ControlClash { label } => program(24, "ControlClash", text(label.bytes())),
-        No::ControlBounds { label } => program(25, "ControlBounds", text(label.bytes())),
-        No::DelayNegative { least } => program(26, "DelayNegative", integer(*least)),
-        No::DelayTooLong { greatest } => program(27, "DelayTooLong", integer(*greatest)),
-        No::DelayBudget { sum } => program(28, "DelayBudget", natural(*sum)),
+        No::ControlClash { ref label } => named(24, "ControlClash", label.bytes()),
+        No::ControlBounds { ref label } => named(25, "ControlBounds", label.bytes()),
+        No::DelayNegative { least } => program(26, "DelayNegative", integer(least)),
+        No::DelayTooLong { greatest } => program(27, "DelayTooLong", integer(greatest)),
+        No::DelayBudget { sum } => program(28, "DelayBudget", natural(sum)),
         No::Channels { have, want } => program(
             29,
             "Channels",
-            pair(u64::from(*have), u64::from(*want)),
+            pair(u64::from(have), u64::from(want)),
         ),
-        No::ControlLine { line } => file(30, "ControlLine", natural(u64::from(*line))),
-        No::ControlUnknown { line } => file(31, "ControlUnknown", natural(u64::from(*line))),
-        No::ControlRange { line } => file(32, "ControlRange", natural(u64::from(*line))),
-        No::ControlOrder { line } => file(33, "ControlOrder", natural(u64::from(*line))),
-        No::NotWave { place } => file(34, "NotWave", natural(*place)),
-        No::WaveTruncated { place } => file(35, "WaveTruncated", natural(*place)),
-        No::WaveFormat { place } => file(36, "WaveFormat", natural(*place)),
-        No::WaveChunks { place } => file(37, "WaveChunks", natural(*place)),
-        No::OutputTooLong { bytes } => file(38, "OutputTooLong", natural(*bytes)),
+        No::ControlLine { line } => script(30, "ControlLine", line),
+        No::ControlUnknown { line } => script(31, "ControlUnknown", line),
+        No::ControlRange { line } => script(32, "ControlRange", line),
+        No::ControlOrder { line } => script(33, "ControlOrder", line),
+        No::NotWave { place } => sound(34, "NotWave", place),
+        No::WaveTruncated { place } => sound(35, "WaveTruncated", place),
+        No::WaveFormat { place } => sound(36, "WaveFormat", place),
+        No::WaveChunks { place } => sound(37, "WaveChunks", place),
+        No::OutputTooLong { bytes } => sound(38, "OutputTooLong", bytes),
         No::FramesNeeded => row(39, USAGE, "FramesNeeded", Fields::None),
         No::NoMemory => row(40, MEMORY, "NoMemory", Fields::None),
-        No::TableForm { cause } => program(41, "TableForm", word(table_name(*cause))),
-        No::TableBudget { sum } => program(42, "TableBudget", natural(*sum)),
-        No::Nesting { line, column } => program(43, "Nesting", place(*line, *column)),
-        No::AuFormat { place } => file(44, "AuFormat", natural(*place)),
-        No::AuTruncated { place } => file(45, "AuTruncated", natural(*place)),
-        No::Job { job, number } => program(46, "Job", pair(*job, u64::from(*number))),
-        No::RackSize { jobs } => program(47, "RackSize", natural(*jobs)),
+        No::TableForm { cause } => program(41, "TableForm", word(table_name(cause))),
+        No::TableBudget { sum } => program(42, "TableBudget", natural(sum)),
+        No::Nesting { line, column } => at(43, "Nesting", line, column),
+        No::AuFormat { place } => sound(44, "AuFormat", place),
+        No::AuTruncated { place } => sound(45, "AuTruncated", place),
+        No::Job { job, number } => program(46, "Job", pair(job, u64::from(number))),
+        No::RackSize { jobs } => program(47, "RackSize", natural(jobs)),
     }
 }
 
@@ -132,6 +123,34 @@ fn file<'a>(number: u32, name: &'static str, fields: Fields<'a>) -> Row<'a>
     ensures { shown result ≡ row_shown number file_status name.now (listed fields.entry) }
 {
     row(number, FILE, name, fields)
+}
+
+// The row of a program that is refused for what stands there.
+fn at(number: u32, name: &'static str, line: u32, column: u32) -> Row<'static>
+    ensures { shown result ≡ row_shown number program_status name.now (decimal line ∷ decimal column ∷ []) }
+{
+    program(number, name, place(line, column))
+}
+
+// The row of a program that is refused for a word or a label of it.
+fn named<'a>(number: u32, name: &'static str, word: &'a [u8]) -> Row<'a>
+    ensures { shown result ≡ row_shown number program_status name.now (word.now ∷ []) }
+{
+    program(number, name, text(word))
+}
+
+// The row of a control script that is refused for this line.
+fn script(number: u32, name: &'static str, line: u32) -> Row<'static>
+    ensures { shown result ≡ row_shown number file_status name.now (decimal line ∷ []) }
+{
+    file(number, name, natural(u64::from(line)))
+}
+
+// The row of a WAV or AU file that is refused for the byte there, or for its size.
+fn sound(number: u32, name: &'static str, place: u64) -> Row<'static>
+    ensures { shown result ≡ row_shown number file_status name.now (decimal place ∷ []) }
+{
+    file(number, name, natural(place))
 }
 
 // A word of these tables.

@@ -49,28 +49,15 @@ fn command_in<'a>(command: &str, texts: &Texts<'a>) -> Result<Job<'a>, Cause>
     ensures job { job_answered result ≡ command_in command.now (Some (texts_in texts.now)) }
     ensures ranges { IfOk result IsJobInRange }
 {
-    if command == "run" {
-        let run = run_of(texts)?;
-        return Ok(Job::Run(run));
+    match command {
+        "run" => Ok(Job::Run(run_of(texts)?)),
+        "au" => Ok(Job::Run(by_kinds(run_of(texts)?))),
+        "rack" => Ok(Job::Run(of_jobs(run_of(texts)?))),
+        _ if texts.has_options => Err(Cause::Form),
+        "check" => check_of(&texts.plain),
+        "make" => make_of(&texts.plain),
+        _ => Err(Cause::Form),
     }
-    if command == "au" {
-        let run = run_of(texts)?;
-        return Ok(Job::Run(by_kinds(run)));
-    }
-    if command == "rack" {
-        let run = run_of(texts)?;
-        return Ok(Job::Run(of_jobs(run)));
-    }
-    if texts.has_options {
-        return Err(Cause::Form);
-    }
-    if command == "check" {
-        return check_of(&texts.plain);
-    }
-    if command == "make" {
-        return make_of(&texts.plain);
-    }
-    Err(Cause::Form)
 }
 
 fn check_of<'a>(plain: &Plain<'a>) -> Result<Job<'a>, Cause>

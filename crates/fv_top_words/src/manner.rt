@@ -1,7 +1,7 @@
 // Of which kinds a run's files are.
 
 /// What the file of a run's program is.
-#[derive(Clone, Copy, PartialEq, Eq, Debug)]
+#[derive(Clone, Copy, PartialEq, Eq)]
 pub enum ProgramKind {
     /// The text of one program.
     Alone,
@@ -10,7 +10,7 @@ pub enum ProgramKind {
 }
 
 /// Of which kind the input of a run is.
-#[derive(Clone, Copy, PartialEq, Eq, Debug)]
+#[derive(Clone, Copy, PartialEq, Eq)]
 pub enum InputKind {
     /// A WAV file.
     Wave,
@@ -19,7 +19,7 @@ pub enum InputKind {
 }
 
 /// Of which kind its output is.
-#[derive(Clone, Copy, PartialEq, Eq, Debug)]
+#[derive(Clone, Copy, PartialEq, Eq)]
 pub enum OutputKind {
     /// A WAV file.
     Wave,
@@ -28,7 +28,7 @@ pub enum OutputKind {
 }
 
 /// Of which kinds the files of a run are.
-#[derive(Clone, Copy, PartialEq, Eq, Debug)]
+#[derive(Clone, Copy, PartialEq, Eq)]
 pub struct Manner {
     pub program: ProgramKind,
     pub input: InputKind,

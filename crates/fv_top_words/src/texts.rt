@@ -149,38 +149,40 @@ impl<'a> Texts<'a> {
     }
 
     // The options, one row each.
-    fn row(self, name: &str, value: &'a str) -> Option<Texts<'a>>
+    fn row(mut self, name: &str, value: &'a str) -> Option<Texts<'a>>
         ensures { option_map texts_in result ≡ row name.now value.now (texts_in self.entry) }
     {
-        if name == "--controls" {
-            let controls = once(self.controls, value)?;
-            return Some(Texts { controls, ..self });
+        match name {
+            "--controls" => {
+                self.controls = once(self.controls, value)?;
+                Some(self)
+            }
+            "--block" => {
+                self.block = once(self.block, value)?;
+                Some(self)
+            }
+            "--vector" => {
+                self.vector = once(self.vector, value)?;
+                Some(self)
+            }
+            "--workers" => {
+                self.workers = once(self.workers, value)?;
+                Some(self)
+            }
+            "--bits" => {
+                self.bits = once(self.bits, value)?;
+                Some(self)
+            }
+            "--frames" => {
+                self.frames = once(self.frames, value)?;
+                Some(self)
+            }
+            "--rate" => {
+                self.rate = once(self.rate, value)?;
+                Some(self)
+            }
+            _ => None,
         }
-        if name == "--block" {
-            let block = once(self.block, value)?;
-            return Some(Texts { block, ..self });
-        }
-        if name == "--vector" {
-            let vector = once(self.vector, value)?;
-            return Some(Texts { vector, ..self });
-        }
-        if name == "--workers" {
-            let workers = once(self.workers, value)?;
-            return Some(Texts { workers, ..self });
-        }
-        if name == "--bits" {
-            let bits = once(self.bits, value)?;
-            return Some(Texts { bits, ..self });
-        }
-        if name == "--frames" {
-            let frames = once(self.frames, value)?;
-            return Some(Texts { frames, ..self });
-        }
-        if name == "--rate" {
-            let rate = once(self.rate, value)?;
-            return Some(Texts { rate, ..self });
-        }
-        None
     }
 }
 
