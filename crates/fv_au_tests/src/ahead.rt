@@ -15,18 +15,18 @@ fn input_of(alloc: Global, bytes: &[u8]) -> Result<MemoryDesk, Fail> {
 }
 
 // What two looks at the input of a desk answer, how many bytes are then filled, and they.
-type Left = (Looked, Looked, usize, [u8; 6]);
+type Left = (Looked, Looked, Result<usize, Failed>, [u8; 6]);
 
 // What is left on a desk behind two looks.
 fn left_behind_looks(desk: &mut MemoryDesk) -> Left {
     let mut ahead = Ahead::new(desk);
     let mut all = [0; 6];
     if ahead.begin_read(Role::Input, "file").is_err() {
-        return (Err(Failed), Err(Failed), 0, all);
+        return (Err(Failed), Err(Failed), Err(Failed), all);
     }
     let first = ahead.peek();
     let second = ahead.peek();
-    let count = fill(&mut ahead, Role::Input, &mut all).unwrap_or(99);
+    let count = fill(&mut ahead, Role::Input, &mut all);
     (first, second, count, all)
 }
 
@@ -34,9 +34,9 @@ fn left_behind_looks(desk: &mut MemoryDesk) -> Left {
 static LEFT: [(&[u8], Left); 2] = [
     (
         b".snd!",
-        (Ok(Some(*b".snd")), Ok(Some(*b".snd")), 5, *b".snd!\0"),
+        (Ok(Some(*b".snd")), Ok(Some(*b".snd")), Ok(5), *b".snd!\0"),
     ),
-    (b"abc", (Ok(None), Ok(None), 3, *b"abc\0\0\0")),
+    (b"abc", (Ok(None), Ok(None), Ok(3), *b"abc\0\0\0")),
 ];
 
 #[test]

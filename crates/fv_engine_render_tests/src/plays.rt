@@ -17,14 +17,16 @@ pub(crate) fn assert_answer(rt: &impl Abort, answer: &Answer, samples: &[i32], r
     assert_eq!(rt; answer.ran, ran);
 }
 
-// A run of this program, with this block, vector and number of workers, gave these samples, and so many loops ran where that is said.
-fn assert_played(
-    rt: &impl Abort,
-    answer: &Answer,
-    wanted: (&[i32], Option<u64>),
-    at: (&str, u32, u32, u32),
-) {
-    let (samples, loops) = wanted;
+/// What a run gives: these samples, and so many loops ran where that is said.
+#[derive(Clone, Copy)]
+pub(crate) struct Wanted<'a> {
+    pub(crate) samples: &'a [i32],
+    pub(crate) loops: Option<u64>,
+}
+
+// A run of this program, with this block, vector and number of workers, gave what was wanted.
+fn assert_played(rt: &impl Abort, answer: &Answer, wanted: Wanted<'_>, at: (&str, u32, u32, u32)) {
+    let Wanted { samples, loops } = wanted;
     let (program, block, vector, workers) = at;
     let found = answer.samples.as_slice();
     let ran = answer.ran.loops;
@@ -34,14 +36,14 @@ fn assert_played(
     );
 }
 
-/// A program gives these samples, and so many loops run where that is said, with each of these sizes of a block and of a vector.
+/// A program gives what is wanted with each of these sizes of a block and of a vector.
 pub(crate) fn assert_plays<R: Abort + Threads + Wait + Sync>(
     rt: &R,
     alloc: Global,
     case: &Case,
     sizes: &[(u32, u32)],
     workers: u32,
-    wanted: (&[i32], Option<u64>),
+    wanted: Wanted<'_>,
 ) -> Result<(), Fail> {
     for (block, vector) in sizes {
         let answer = rendered_by(rt, alloc, case, *block, *vector, workers, &mut FreeGate)?;

@@ -1,7 +1,7 @@
 // Rows of programs.
 
 use crate::cases::{Case, numbers_of, rendered, stepped};
-use crate::plays::{assert_answer, assert_plays};
+use crate::plays::{Wanted, assert_answer, assert_plays};
 use fv_engine_render::Ran;
 use fv_num::Span;
 use fv_outside::{FreeGate, Line, Reads, Recorder, Task};
@@ -110,8 +110,12 @@ static CASES: [Case; 8] = [ECHO, DIFFERENCE, FADER, NOISE, WAVES, CHOSEN, LOOPER
 fn blocks_give_what_the_runner_gives(rt: HostRuntime) -> Result<(), Fail> {
     let alloc = rt.alloc();
     for case in &CASES {
-        let wanted = stepped(alloc, case)?;
-        assert_plays(&rt, alloc, case, &SIZES, 1, (wanted.as_slice(), None))?;
+        let samples = stepped(alloc, case)?;
+        let wanted = Wanted {
+            samples: samples.as_slice(),
+            loops: None,
+        };
+        assert_plays(&rt, alloc, case, &SIZES, 1, wanted)?;
     }
     Ok(())
 }
@@ -139,7 +143,10 @@ static SIMPLER: [(&Case, &[i32], u64); 3] = [
 #[test]
 fn graphs_are_simpler(rt: HostRuntime) -> Result<(), Fail> {
     for (case, samples, loops) in &SIMPLER {
-        let wanted = (*samples, Some(*loops));
+        let wanted = Wanted {
+            samples,
+            loops: Some(*loops),
+        };
         assert_plays(&rt, rt.alloc(), case, &SIZES, 1, wanted)?;
     }
     Ok(())
@@ -155,7 +162,11 @@ static TABLES: [(&Case, &[i32]); 3] = [
 #[test]
 fn tables_over_blocks(rt: HostRuntime) -> Result<(), Fail> {
     for (case, samples) in &TABLES {
-        assert_plays(&rt, rt.alloc(), case, &SIZES, 1, (*samples, None))?;
+        let wanted = Wanted {
+            samples,
+            loops: None,
+        };
+        assert_plays(&rt, rt.alloc(), case, &SIZES, 1, wanted)?;
     }
     Ok(())
 }

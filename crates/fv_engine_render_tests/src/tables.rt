@@ -1,7 +1,7 @@
 // Programs with waveforms and tables.
 
 use crate::cases::Case;
-use crate::plays::assert_plays;
+use crate::plays::{Wanted, assert_plays};
 use std::alloc::Global;
 use std::marker::Sync;
 use std::process::Abort;
@@ -21,15 +21,19 @@ fn assert_all_sound<R: Abort + Threads + Wait + Sync>(
     alloc: Global,
     rows: &[Row],
 ) -> Result<(), Fail> {
-    for (program, input, frames, wanted) in rows {
+    for (program, input, frames, samples) in rows {
         let case = Case {
             program,
             script: "",
             input,
             frames: *frames,
         };
+        let wanted = Wanted {
+            samples,
+            loops: None,
+        };
         for workers in [1, 2] {
-            assert_plays(rt, alloc, &case, &SIZES, workers, (wanted, None))?;
+            assert_plays(rt, alloc, &case, &SIZES, workers, wanted)?;
         }
     }
     Ok(())

@@ -1,6 +1,6 @@
 // Rows of blocks.
 
-ghost use Rattle.std.specs.Prelude.{◌≡◌, ◌<◌};
+ghost use Rattle.std.specs.Prelude.{◌≡◌, ◌<◌, ◌≤◌, length};
 ghost use Rattle.fv_engine_tests.specs.Runs.{IsSquare};
 
 use crate::engines::{Reported, Sizes, engine_of, play, play_graph};
@@ -97,6 +97,35 @@ const SMALL: Sizes = Sizes {
     workers: 1,
 };
 
+// One block of at most two frames under this value of the control.
+fn play_under<R: Threads + Wait + Sync>(
+    rt: &R,
+    alloc: Global,
+    engine: &mut Engine,
+    control: i32,
+    input: &[i32],
+    output: &mut [i32],
+    recorder: &mut Recorder,
+)
+    requires square { IsSquare engine.old 1 4 1 }
+    requires alike { length output.old ≡ length input.now }
+    requires few { length input.now ≤ 2 }
+    ensures { IsSquare engine.new 1 4 1 }
+{
+    let frames = input.len() as u32;
+    play(
+        rt,
+        alloc,
+        engine,
+        SMALL,
+        &[control],
+        frames,
+        input,
+        output,
+        recorder,
+    );
+}
+
 // Three blocks of fives: the control is 1, from the third frame on 3, and from the fourth 0.
 fn play_fives<R: Threads + Wait + Sync>(
     rt: &R,
@@ -109,39 +138,9 @@ fn play_fives<R: Threads + Wait + Sync>(
     let mut first = [0; 2];
     let mut second = [0; 1];
     let mut third = [0; 2];
-    play(
-        rt,
-        alloc,
-        engine,
-        SMALL,
-        &[1],
-        2,
-        &[5, 5],
-        &mut first,
-        recorder,
-    );
-    play(
-        rt,
-        alloc,
-        engine,
-        SMALL,
-        &[3],
-        1,
-        &[5],
-        &mut second,
-        recorder,
-    );
-    play(
-        rt,
-        alloc,
-        engine,
-        SMALL,
-        &[0],
-        2,
-        &[5, 5],
-        &mut third,
-        recorder,
-    );
+    play_under(rt, alloc, engine, 1, &[5, 5], &mut first, recorder);
+    play_under(rt, alloc, engine, 3, &[5], &mut second, recorder);
+    play_under(rt, alloc, engine, 0, &[5, 5], &mut third, recorder);
     (first, second, third)
 }
 

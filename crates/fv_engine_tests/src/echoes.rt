@@ -20,7 +20,13 @@ use test_graphs::echo_left;
 fn echoes_by_each_size(rt: HostRuntime) -> Result<(), Fail> {
     let graph = echo_left(rt.alloc())?;
     for (block, vector) in [(1, 1), (7, 7), (512, 32)] {
-        assert_echoes(&rt, rt.alloc(), &graph, (0, 0), block, vector, 1)?;
+        let sizes = Sizes {
+            width: 2,
+            block,
+            vector,
+            workers: 1,
+        };
+        assert_echoes(&rt, rt.alloc(), &graph, (0, 0), sizes)?;
     }
     Ok(())
 }
@@ -31,7 +37,13 @@ fn blocks_that_always_run_alone_are_refused(rt: HostRuntime) -> Result<(), Fail>
     let text = "echo(d,g) = + ~ (@(d-1) : *(g) : /(256)); process = par(i,2,echo(11025,128));";
     let graph = graph_of(rt.alloc(), text)?;
     for (block, vector, workers) in [(7, 7, 2), (512, 32, 2), (512, 32, 16)] {
-        assert_echoes(&rt, rt.alloc(), &graph, (-3, -1), block, vector, workers)?;
+        let sizes = Sizes {
+            width: 2,
+            block,
+            vector,
+            workers,
+        };
+        assert_echoes(&rt, rt.alloc(), &graph, (-3, -1), sizes)?;
     }
     Ok(())
 }
@@ -97,22 +109,18 @@ fn assert_echoes<R: Abort + Threads + Wait + Sync>(
     alloc: Global,
     graph: &Graph,
     right: (i32, i32),
-    block: u32,
-    vector: u32,
-    workers: u32,
-) -> Result<(), NoMemory> {
-    let sizes = Sizes {
-        width: 2,
-        block,
-        vector,
-        workers,
-    };
+    sizes: Sizes,
+) -> Result<(), NoMemory>
+    requires { sizes.width ≡ 2 }
+{
     let (reported, seen) = play_echoes(rt, alloc, graph, right, sizes)?;
     assert!(rt; reported.tasks > 0);
     assert_eq!(rt;
         (reported.alone, seen),
         (0, reported.tasks),
-        "block {block}, workers {workers}"
+        "block {}, workers {}",
+        sizes.block,
+        sizes.workers
     );
     Ok(())
 }

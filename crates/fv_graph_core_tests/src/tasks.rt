@@ -84,34 +84,35 @@ static THREE_VECTORS: [Row; 6] = [
 // The tasks that the edges go into, but for the exits.
 const READERS: [u64; 9] = [0, 1, 1, 2, 3, 3, 4, 5, 5];
 
-// What of a task is otherwise than its row says; nothing where all is so.
-fn wrong_part(tasks: &Tasks, t: u64, row: &Row) -> &'static str
+// What of a task is otherwise than its row says, if anything is.
+fn wrong_part(tasks: &Tasks, t: u64, row: &Row) -> Option<&'static str>
     requires { t < task_count tasks.now.tasks }
 {
     if tasks.task(t) != row.task {
-        return "the loop and the vector";
+        return Some("the loop and the vector");
     }
     if tasks.inward(t) != row.inward {
-        return "the edges into it";
+        return Some("the edges into it");
     }
     if tasks.outward(t) != row.outward {
-        return "the edges out of it";
+        return Some("the edges out of it");
     }
     if tasks.feeds(t) != row.feeds {
-        return "what it feeds";
+        return Some("what it feeds");
     }
     if tasks.count(t) != row.count {
-        return "how many it reads";
+        return Some("how many it reads");
     }
-    ""
+    None
 }
 
 // Fails where the tasks are not those of the rows.
 fn assert_are_tasks(rt: &impl Abort, tasks: &Tasks, rows: &[Row]) {
     assert_eq!(rt; tasks.len(), rows.len() as u64);
     for t in 0..tasks.len() {
-        let wrong = wrong_part(tasks, t, &rows[t as usize]);
-        assert!(rt; wrong.is_empty(), "{wrong} of {t}");
+        if let Some(part) = wrong_part(tasks, t, &rows[t as usize]) {
+            panic!(rt; "{part} of {t}");
+        }
     }
 }
 
