@@ -1,4 +1,5 @@
 -- The lemmas that proofs of other crates take.
+pub mod Same
 pub mod Puts
 pub mod Kept
 pub mod Groups

@@ -1,3 +1,4 @@
+mod Through
 pub mod Put
 pub mod Numbers
 pub mod Images

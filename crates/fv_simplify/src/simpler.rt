@@ -4,6 +4,7 @@ ghost use Rattle.std.specs.Prelude.{List, ℕ, IfOk};
 ghost use Rattle.fv_num.specs.headline.Frames.{Frame, Stream};
 ghost use Rattle.fv_simplify_rules.specs.headline.Reducible.{AreShort};
 ghost use Rattle.fv_simplify_rules.specs.Reducible.{StayWithin, IsSimpler};
+ghost use Rattle.fv_fold.specs.Kept.{KeepsAll};
 ghost use Rattle.fv_simplify.specs.Simplified.{AreSmallIn};
 ghost use Rattle.fv_simplify.specs.inner.Once.{Folds, Joins};
 
@@ -11,6 +12,7 @@ use crate::marks::marks;
 use crate::pass::rebuild;
 use crate::rooms::rooms;
 use crate::widths::widths;
+use fv_fold::fold;
 use fv_num::Span;
 use fv_signal::Graph;
 use std::alloc::{AllocError, Global};
@@ -25,7 +27,8 @@ pub fn simplify(alloc: Global, graph: &Graph, controls: &[Span]) -> Result<Graph
 {
     let _spans = controls;
     let first = folded(alloc, graph)?;
-    joined(alloc, &first)
+    let one = one_of_each(alloc, &first)?;
+    joined(alloc, &one)
 }
 
 // The graph in which what numbers decide is folded.
@@ -37,6 +40,15 @@ fn folded(alloc: Global, graph: &Graph) -> Result<Graph, AllocError>
     let marks = marks(alloc, graph)?;
     let widths = widths(alloc, graph, &marks)?;
     rebuild(alloc, graph, &marks, &widths, &[])
+}
+
+// The graph in which equal signals are read as one.
+fn one_of_each(alloc: Global, graph: &Graph) -> Result<Graph, AllocError>
+    requires { AreShort graph.now }
+    ensures keeps { IfOk result (KeepsAll graph.now) }
+    ensures short { IfOk result AreShort }
+{
+    fold(alloc, graph)
 }
 
 // The graph in which, moreover, delays are joined.

@@ -1,6 +1,5 @@
 -- What a graph's signals are and read (this project's profile).
-use Rattle.std.specs.Prelude.{ℕ, zero, suc, List, [], ◌∷◌, take, ℤ, Option, None, Some}
-use Rattle.fv_num.specs.headline.Words.{inputs_of}
+use Rattle.std.specs.Prelude.{ℕ, zero, suc, List, [], ◌∷◌, ℤ, Option, None, Some}
 use Rattle.fv_signal.specs.declared.signal.Signal.{Signal}
 use Rattle.fv_signal.specs.declared.signal.Signal.TheVariants.{Input, Const, Control, Point, Delay, Back, Member, Read, Write}
 use Rattle.fv_signal.specs.headline.Value.{Graph}
@@ -38,15 +37,3 @@ before (Some n) (Some ns) = Some (n ∷ ns)
 abbrev pub numbers : Graph → List ℕ → Option (List ℤ)
 numbers g [] = Some []
 numbers g (a ∷ rest) = before (number_at g a) (numbers g rest)
-
--- the signals that a node reads
-abbrev pub operands : Signal → List ℕ
-operands (Input k) = []
-operands (Const n) = []
-operands (Control k) = []
-operands (Point op args) = take (inputs_of op) args
-operands (Delay x d most) = x ∷ d ∷ []
-operands (Back group k) = []
-operands (Member group k) = []
-operands (Read table r) = r ∷ []
-operands (Write table w x r) = w ∷ x ∷ r ∷ []

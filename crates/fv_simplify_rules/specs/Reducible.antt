@@ -10,9 +10,9 @@ use Rattle.fv_num.specs.headline.Frames.{Frame, Stream, column, table}
 use Rattle.fv_num.specs.headline.Interval.{IsWithin}
 use Rattle.fv_signal.specs.declared.signal.Signal.{Signal}
 use Rattle.fv_signal.specs.declared.signal.Signal.TheVariants.{Input, Const, Control, Point, Delay, Back, Member, Read, Write}
-use Rattle.fv_signal.specs.headline.Value.{Graph, members, definition, value}
+use Rattle.fv_signal.specs.headline.Value.{Graph, value}
 use Rattle.fv_simplify_rules.specs.Choices.{is_neutral, is_absorbing}
-use Rattle.fv_simplify_rules.specs.Nodes.{node, StandsAt, known, numbers, operands}
+use Rattle.fv_simplify_rules.specs.Nodes.{node, StandsAt, known, numbers}
 use Rattle.fv_simplify_rules.specs.headline.Reducible.{limit, AreShort}
 
 -- an operation that chooses by its first operand
@@ -28,21 +28,13 @@ pub record IsDelayedBy (g : Graph) (s x : ℕ) (c : ℤ) : Type 0 where
   pub stands : StandsAt g s (Delay x by most)
   pub is : node g by ≡ Const c
 
--- signal r reads signal s
-pub record Reads (g : Graph) (r s : ℕ) : Type 0 where
-  pub within : r < length g.signals
-  pub place : ℕ
-  pub there : place < length (operands (node g r))
-  pub is : slice_index_or (operands (node g r)) place 0 ≡ s
-
--- Signal y is a delay by a number that its readers can take over: it defines no member, and each signal that reads it is a
--- delay of it by a number, whose sum with its own is within the limit.
+-- Signal y is a delay by a number that its delays can take over: each delay of y is by a number, whose sum with its own is within
+-- the limit.
 pub record IsTakenOver (g : Graph) (y : ℕ) : Type 0 where
   pub x : ℕ
   pub c : ℤ
   pub delayed : IsDelayedBy g y x c
-  pub undefined : (group i : ℕ) → group < length g.groups → i < length (members g group) → definition g group i ≡ y → ⊥
-  pub readers : (r : ℕ) → Reads g r y → (b : ℤ) × IsDelayedBy g r y b × ((c +ℤ b) ≤ℤ pos limit)
+  pub delays : (r d most : ℕ) → StandsAt g r (Delay y d most) → (b : ℤ) × IsDelayedBy g r y b × ((c +ℤ b) ≤ℤ pos limit)
 
 -- Why a signal is reducible.
 pub data IsReducible (g : Graph) (s : ℕ) : Type 0 where

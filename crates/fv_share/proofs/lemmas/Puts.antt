@@ -11,7 +11,7 @@ use Rattle.fv_base.specs.headline.Lists.{IsPrefixOf}
 use Rattle.fv_base.proofs.lemmas.Lists.{prefix_refl}
 use Rattle.fv_signal.specs.declared.signal.Signal.{Signal}
 use Rattle.fv_share.specs.Drafts.{Draft, with_table, AreDistinct, IsPut, IsTablePut, BacksStayWithin, TablesStand, put, put_table, same, same_list}
-use Rattle.fv_share.proofs.Same.{same_equal, same_self, lists_equal}
+use Rattle.fv_share.proofs.lemmas.Same.{same_equal, same_self, lists_equal}
 
 or_false : (a b : Bool) → a || b ≡ false → (a ≡ false) × (b ≡ false)
 or_false true b h = absurd cc

@@ -12,9 +12,9 @@ use Rattle.fv_signal.specs.declared.signal.Signal.{Signal}
 use Rattle.fv_signal.specs.declared.signal.Signal.TheVariants.{Input, Const, Control, Point, Delay, Back, Member, Read, Write}
 use Rattle.fv_signal.specs.headline.Value.{Graph, IsGraph}
 use Rattle.fv_simplify_rules.specs.Choices.{left_by, or_else, selected2, selected3, choice}
-use Rattle.fv_simplify_rules.specs.Nodes.{node, StandsAt, number, number_at, known, before, numbers, operands}
+use Rattle.fv_simplify_rules.specs.Nodes.{node, StandsAt, number, number_at, known, before, numbers}
 use Rattle.fv_simplify_rules.specs.headline.Reducible.{limit}
-use Rattle.fv_simplify_rules.specs.Reducible.{IsDelayedBy, Reads, IsTakenOver, IsReducible}
+use Rattle.fv_simplify_rules.specs.Reducible.{IsDelayedBy, IsTakenOver, IsReducible}
 use Rattle.fv_simplify_rules.specs.Rebuilt.{back_by, taken, base_of, base, AsNumber, AsOperand, AsItself, IsDelayImage, AtOnce}
 use Rattle.fv_simplify_rules.specs.Rebuilt.{LateNothing, Late, Nothing, Varying, IsImage, IsRebuilt, IsFolded, IsRoom}
 use Rattle.fv_simplify_rules.proofs.lemmas.Choices.{choice_within}
@@ -179,14 +179,6 @@ module _ (g f : Graph) (p : ℕ → ℕ) (room : ℕ → Option ℕ) (P : ℕ �
 
     -- ---- no delay is taken over
 
-    reads_first : (i x d most : ℕ) → i < length f.signals → node f i ≡ Delay x d most → Reads f i x
-    reads_first i x d most l e = record {
-      within = l;
-      place = 0;
-      there = subst (λ n. 0 < length (operands n)) (sym e) (omega arith);
-      is = ap (λ n. get_or (operands n) 0 0) e;
-    }
-
     -- a reader that is no delay by a number, or one that goes too far
     module _ (y : ℕ) (t : IsTakenOver f y) (root : HasRoot y) where
       abbrev first : IsDelayedBy f y t.x t.c
@@ -211,7 +203,7 @@ module _ (g f : Graph) (p : ℕ → ℕ) (room : ℕ → Option ℕ) (P : ℕ �
           go (Late c k q z w u i) = let w' = sym q ∙ none in absurd cc
           go (Nothing q w i) = let w' = sym w ∙ at_root in absurd cc
           go (Varying q w i) =
-              let r = t.readers (p s) (subst (Reads f (p s)) root.is (reads_first (p s) (p root.x) (p d) most (h.there s a.within o) i)) in
+              let r = t.delays (p s) (p d) most (record { within = h.there s a.within o; is = subst (λ z. node f (p s) ≡ Delay z (p d) most) root.is i }) in
               let b = r.1 in
               let both = sym i ∙ b.stands.is in
               let same_d : p d ≡ b.by = cc in
@@ -236,8 +228,9 @@ module _ (g f : Graph) (p : ℕ → ℕ) (room : ℕ → Option ℕ) (P : ℕ �
           go (Nothing e w i) = let w' = sym w ∙ at_root in absurd cc
           go (Varying e w i) = let w' = sym some ∙ e in absurd cc
           go (Late c k e z w u i) =
-              let r = t.readers (p s) (subst (Reads f (p s)) (ap (λ b. b.0) root.base_is ∙ root.is)
-              (reads_first (p s) (base f (room root.x) (p root.x)).0 k ((base f (room root.x) (p root.x)).1 + back_by most c) (h.there s a.within o) i)) in
+              let far_back = (base f (room root.x) (p root.x)).1 + back_by most c in
+              let r = t.delays (p s) k far_back
+              (record { within = h.there s a.within o; is = subst (λ z. node f (p s) ≡ Delay z k far_back) (ap (λ b. b.0) root.base_is ∙ root.is) i }) in
               let b = r.1 in
               let both = sym i ∙ b.stands.is in
               let same_d : k ≡ b.by = cc in
@@ -273,7 +266,7 @@ module _ (g f : Graph) (p : ℕ → ℕ) (room : ℕ → Option ℕ) (P : ℕ �
 
     pub untaken : (s y : ℕ) (b : ℤ) → IsDelayedBy f s y b → IsTakenOver f y → ⊥
     untaken s y b d t =
-        let r = t.readers s (reads_first s y d.by d.most d.stands.within d.stands.is) in
+        let r = t.delays s d.by d.most d.stands in
         let n = r.1 in
         let reader = (tight g f p room P whole h s y n.by n.most n.stands.within n.stands.is).1 r.0 (ap number n.is) in
         let first = t.delayed in

@@ -1,17 +1,18 @@
 use Rattle.std.proofs.lemmas.Result.{IfOk-weaker}
 use Rattle.fv_simplify_rules.specs.Reducible.{IsSimpler}
-use Rattle.fv_simplify_rules.specs.Rebuilt.{IsMarked}
-use Rattle.fv_simplify_rules.proofs.lemmas.Twice.{simpler}
+use Rattle.fv_fold.specs.Kept.{KeepsAll}
 use Rattle.fv_simplify.specs.inner.Once.{Folds, Joins}
+use Rattle.fv_simplify.proofs.Through.{simpler_through}
 use Rattle.fv_simplify.proofs.simpler.simplify.Goals as goal
 
 pub returns-clause-simpler : goal.returns-clause-simpler
 returns-clause-simpler c =
     let g = c.args.graph.now in
     let f = c.in_ok-first.first in
+    let e = c.in_ok-one.one in
     let a : Folds g f = c.in_ok-first.ensures.folds in
-    IfOk-weaker c.joined.result (Joins f) (IsSimpler g)
-    (λ h j. simpler g f h a.images j.images j.rooms (IsMarked a.marks) (IsMarked j.marks) a.graph a.rebuilt j.rebuilt j.joined) c.joined.ensures
+    let k : KeepsAll f e = c.in_ok-one.ensures.keeps in
+    IfOk-weaker c.joined.result (Joins e) (IsSimpler g) (λ h j. simpler_through g f e h a k j) c.joined.ensures
 
 pub returns-clause-within : goal.returns-clause-within
 returns-clause-within c =

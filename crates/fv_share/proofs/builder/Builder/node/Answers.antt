@@ -2,7 +2,7 @@ use Rattle.std.proofs.Common.{◌≡◌, List, get_or, sym, ap, ◌∙◌, subst
 use Rattle.fv_signal.specs.declared.signal.Signal.{Signal}
 use Rattle.fv_share.specs.Drafts.{Draft, CanPut, IsDraft}
 use Rattle.fv_share.specs.Inside.{draft_of}
-use Rattle.fv_share.proofs.Same.{same_equal}
+use Rattle.fv_share.proofs.lemmas.Same.{same_equal}
 use Rattle.fv_share.proofs.lemmas.Puts.{got}
 use Rattle.fv_share.proofs.lemmas.Kept.{put_keeps}
 use Rattle.fv_share.proofs.builder.Builder.node.Goals as goal

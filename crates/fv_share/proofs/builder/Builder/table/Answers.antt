@@ -3,7 +3,7 @@ use Rattle.std.specs.List.{position_or_len}
 use Rattle.std.proofs.lemmas.List.{length-map}
 use Rattle.std.proofs.lemmas.List.Sums.{passes_at_first}
 use Rattle.fv_share.specs.Drafts.{Draft, lists_in, same_list}
-use Rattle.fv_share.proofs.Same.{lists_equal}
+use Rattle.fv_share.proofs.lemmas.Same.{lists_equal}
 use Rattle.fv_share.proofs.builder.Builder.table.Goals as goal
 
 pub returns-then-place-len-clause-there : goal.returns-then-place-len-clause-there

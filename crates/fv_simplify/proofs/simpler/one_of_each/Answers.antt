@@ -1,0 +1,7 @@
+use Rattle.std.proofs.lemmas.Result.{IfOk-weaker}
+use Rattle.fv_simplify_rules.specs.headline.Reducible.{AreShort}
+use Rattle.fv_fold.specs.Kept.{KeepsAll}
+use Rattle.fv_simplify.proofs.simpler.one_of_each.Goals as goal
+
+pub returns-clause-short : goal.returns-clause-short
+returns-clause-short c = IfOk-weaker c.fold.result (KeepsAll c.args.graph.now) AreShort (λ h k. k.short c.requires) c.fold.ensures.keeps
