@@ -9,8 +9,7 @@ use fv_diagram_runner::Stepper;
 use std::alloc::{AllocError, Global};
 use std::process::Abort;
 use std::test::Fail;
-use test_diagrams::{Build, Item, Unput, WIRE};
-use test_programs::program_with_controls;
+use test_diagrams::{Build, Item, Unput, WIRE, program_with_controls};
 
 // An expression, frames that stand one after another, and what it answers on them.
 struct Row {

@@ -4,7 +4,7 @@ use fv_interval::{DelayRefusal, Delays, spans, spans_of};
 use std::alloc::Global;
 use std::process::Abort;
 use std::test::Fail;
-use test_programs::program_with_controls;
+use test_diagrams::program_with_controls;
 
 // An expression, and its delays or their refusal.
 struct Row {

@@ -4,7 +4,7 @@ use Rattle.fv_base.proofs.lemmas.Lists.{length_table}
 use Rattle.fv_outside.specs.headline.Tasks.{Tasks}
 use Rattle.fv_outside.specs.declared.gate.Line.{Line}
 use Rattle.fv_graph.specs.Graph.{net_of}
-use Rattle.fv_graph_core.specs.Core.{Now, opening}
+use Rattle.fv_graph.specs.Core.{Now, opening}
 use Rattle.fv_loopcode.specs.headline.Lanes.{Lane, lane_of}
 use Rattle.fv_loopcode.specs.headline.State.{State}
 use Rattle.fv_lines.specs.Solo.{lanes_of, lane_at, held_at, history_at, lengths_in, shapes_in, cells_in, frames_in, opening_lanes, IsSolo, AreFull}

@@ -2,7 +2,7 @@
 use Rattle.std.specs.Prelude.{◌≡◌, ◌≤◌}
 use Rattle.fv_outside.specs.Tasks.{task_count}
 use Rattle.fv_graph.specs.Graph.{Graph, edges_of}
-use Rattle.fv_graph_core.specs.Running.{Running}
+use Rattle.fv_graph.specs.Running.{Running}
 
 -- a core of one worker, with room for the most vectors that the tasks may have
 pub record HasCore (t : Graph) (core : Running) : Type 0 where

@@ -3,7 +3,7 @@ use Rattle.std.specs.Prelude.{◌≤◌}
 use Rattle.fv_base.specs.declared.limits.TheConstants.{MOST_WORKERS}
 use Rattle.fv_outside.specs.headline.Tasks.{Tasks}
 use Rattle.fv_split_plan.specs.headline.View.{PlanView}
-use Rattle.fv_engine_lanes.specs.Cells.{ArePlaced}
+use Rattle.fv_engine_codes.specs.Cells.{ArePlaced}
 use Rattle.fv_engine_codes.specs.Codes.{AreLocalCodes, AreLaneCounts}
 use Rattle.fv_engine.specs.declared.crew_codes.CrewCodes.{CrewCodes}
 

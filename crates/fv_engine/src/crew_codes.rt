@@ -1,7 +1,6 @@
 // What several workers keep of a plan.
 
-use fv_engine_codes::LaneCount;
-use fv_engine_lanes::CellPlaces;
+use fv_engine_codes::{CellPlaces, LaneCount};
 use fv_loopcode_machine::Code;
 
 /// The code of each loop over the lanes that it sees, how many these are, where each of the cells stands among those of its loop, and how

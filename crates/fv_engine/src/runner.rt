@@ -4,8 +4,7 @@ ghost use Rattle.std.specs.Prelude.{◌≤◌, vec_capacity};
 ghost use Rattle.fv_outside.specs.Tasks.{task_count};
 ghost use Rattle.fv_engine.specs.Cores.{HasCore};
 
-use fv_graph::Tasks;
-use fv_graph_core::Core;
+use fv_graph::{Core, Tasks};
 use fv_loopcode_machine::{Scratch, unsettle};
 use fv_outside::Line;
 
@@ -25,7 +24,7 @@ pub(crate) struct TaskRunner {
 impl TaskRunner {
     ghost use Rattle.std.specs.Prelude.{◌≡◌, ◌<◌, [], length};
     ghost use Rattle.fv_graph.specs.Graph.{net_of};
-    ghost use Rattle.fv_graph_core.specs.Core.{opening};
+    ghost use Rattle.fv_graph.specs.Core.{opening};
     ghost use Rattle.fv_loopcode_machine.specs.Scratches.{AreUnsettled};
 
     /// The tasks are those of so many vectors from now on, and no line is written of them.

@@ -5,7 +5,7 @@ use Rattle.std.proofs.lemmas.List.{get_or-map}
 use Rattle.fv_graph.specs.Words.{passing}
 use Rattle.fv_split_plan.specs.headline.View.{PlanView, lane_info}
 use Rattle.fv_split_plan.specs.declared.lane.LaneInfo.{LaneInfo}
-use Rattle.fv_engine_lanes.specs.Plans.{own_lanes}
+use Rattle.fv_engine_codes.specs.Plans.{own_lanes}
 
 passing_same : (p q : ℕ → Bool) (from n : ℕ) → ((k : ℕ) → from ≤ k → k < from + n → p k ≡ q k) → passing p from n ≡ passing q from n
 passing_same p q from zero h = refl

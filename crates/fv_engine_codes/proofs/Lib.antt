@@ -1,3 +1,7 @@
+pub mod lemmas
+pub mod Renumbering
+pub mod Valid
+pub mod Writing
 pub mod Keys
 pub mod Named
 pub mod Numbering

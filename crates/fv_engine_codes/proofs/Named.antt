@@ -15,8 +15,8 @@ use Rattle.fv_split_plan.specs.headline.Fits.{flows}
 use Rattle.fv_split_plan.specs.headline.View.{PlanView, code_of, roles_of}
 use Rattle.fv_split_plan.specs.headline.Plans.{PlanReads, LoadsWithin}
 use Rattle.fv_split_plan.specs.Plans.{IsPlan}
-use Rattle.fv_engine_lanes.specs.Renumbered.{renumbered, HasPlace, Places}
-use Rattle.fv_engine_lanes.proofs.lemmas.CellsSet.{there_of}
+use Rattle.fv_engine_codes.specs.Renumbered.{renumbered, HasPlace, Places}
+use Rattle.fv_engine_codes.proofs.lemmas.CellsSet.{there_of}
 use Rattle.fv_engine_codes.proofs.Once.{own_seen}
 
 -- a step loads a lane that the roles name as loaded, and appends one of their own

@@ -11,12 +11,12 @@ use Rattle.fv_graph.specs.Words.{passing}
 use Rattle.fv_graph.specs.Graph.{IsGraph, pair_at}
 use Rattle.fv_graph.proofs.lemmas.Counts.{bit_le, bit_same, bit_apart, bit_swap, bit_true, both_true, eq_of, one_of, map_miss, times_above, times_passing}
 use Rattle.fv_graph.proofs.lemmas.ReadsLemmas.{map_rises, rises_once, stands, place, loop_place}
-use Rattle.fv_graph_core.proofs.lemmas.Few.{few}
+use Rattle.fv_graph.proofs.lemmas.Few.{few}
 use Rattle.fv_loopcode.specs.headline.Obeys.{OfLane}
 use Rattle.fv_split_plan.specs.headline.View.{PlanView, lane_info, roles_of}
 use Rattle.fv_split_plan.specs.headline.Plans.{PlanReads}
-use Rattle.fv_engine_lanes.specs.Renumbered.{IsNamed}
-use Rattle.fv_engine_lanes.specs.Plans.{own_lanes, sources_of, lanes_of_all, locals_of}
+use Rattle.fv_engine_codes.specs.Renumbered.{IsNamed}
+use Rattle.fv_engine_codes.specs.Plans.{own_lanes, sources_of, lanes_of_all, locals_of}
 use Rattle.fv_engine_codes.specs.Codes.{AreOfPlan}
 use Rattle.fv_engine_codes.specs.inner.Numbered.{AreOnce}
 use Rattle.fv_engine_codes.proofs.Numbering.{times_append}

@@ -6,7 +6,7 @@ use Rattle.std.proofs.lemmas.List.{length_push, length-set, get_or_push, get_or_
 use Rattle.fv_split_plan.specs.headline.View.{PlanView, cells_info}
 use Rattle.fv_split_plan.specs.headline.Separated.{AsWritten}
 use Rattle.fv_split_plan.specs.Plans.{IsPlan}
-use Rattle.fv_engine_lanes.specs.Cells.{ArePlaced}
+use Rattle.fv_engine_codes.specs.Cells.{ArePlaced}
 
 -- the loop of cells
 abbrev pub owner_of : PlanView → ℕ → ℕ

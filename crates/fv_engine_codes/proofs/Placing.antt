@@ -10,8 +10,8 @@ use Rattle.fv_graph.proofs.lemmas.ReadsLemmas.{get_passing, place}
 use Rattle.fv_loopcode.specs.headline.Obeys.{OfLane}
 use Rattle.fv_split_plan.specs.headline.View.{PlanView, lane_info, roles_of}
 use Rattle.fv_split_plan.specs.headline.Plans.{PlanReads}
-use Rattle.fv_engine_lanes.specs.Renumbered.{Places}
-use Rattle.fv_engine_lanes.specs.Plans.{own_lanes, sources_of, lanes_of_all, locals_of}
+use Rattle.fv_engine_codes.specs.Renumbered.{Places}
+use Rattle.fv_engine_codes.specs.Plans.{own_lanes, sources_of, lanes_of_all, locals_of}
 use Rattle.fv_engine_codes.specs.Codes.{AreOfPlan}
 use Rattle.fv_engine_codes.specs.inner.Numbered.{AreNumbered}
 use Rattle.fv_engine_codes.proofs.Once.{owner, times_own, own_seen, named_seen}

@@ -9,7 +9,7 @@ use Rattle.fv_outside.specs.Tasks.{times}
 use Rattle.fv_graph.specs.Graph.{IsGraph}
 use Rattle.fv_graph.proofs.lemmas.ReadsLemmas.{get_passing}
 use Rattle.fv_split_plan.specs.headline.View.{PlanView, lane_info}
-use Rattle.fv_engine_lanes.specs.Plans.{own_lanes, sources_of, lanes_of_all, locals_of}
+use Rattle.fv_engine_codes.specs.Plans.{own_lanes, sources_of, lanes_of_all, locals_of}
 use Rattle.fv_engine_codes.specs.inner.Numbered.{AreOnce}
 use Rattle.fv_engine_codes.proofs.Numbering.{times_append}
 use Rattle.fv_engine_codes.proofs.Once.{lanes_once, lanes_few}

@@ -9,7 +9,7 @@ use Rattle.fv_outside.specs.Tasks.{task_count}
 use Rattle.fv_graph.specs.Words.{passing}
 use Rattle.fv_graph.specs.Graph.{IsGraph, pair_at, pair_edge, chain_edge, loop_of, vector_of, inward}
 use Rattle.fv_graph.proofs.lemmas.ReadsLemmas.{get_passing}
-use Rattle.fv_engine_lanes.specs.Plans.{sources_of}
+use Rattle.fv_engine_codes.specs.Plans.{sources_of}
 
 module _ (g : Tasks) (j : ℕ) (graph : IsGraph g) (there : j < g.loops) where
   abbrev ks : List ℕ

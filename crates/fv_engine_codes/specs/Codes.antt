@@ -3,7 +3,7 @@ use Rattle.std.specs.Prelude.{◌≡◌, ℕ, ◌<◌, List, [], length, slice_i
 use Rattle.fv_outside.specs.headline.Tasks.{Tasks, reads_loop}
 use Rattle.fv_loopcode.specs.declared.step.Step.{Step}
 use Rattle.fv_split_plan.specs.headline.View.{PlanView}
-use Rattle.fv_engine_lanes.specs.Plans.{own_lanes, sources_of, lanes_of_all, IsLocalCode}
+use Rattle.fv_engine_codes.specs.Plans.{own_lanes, sources_of, lanes_of_all, IsLocalCode}
 use Rattle.fv_engine_codes.specs.declared.counts.LaneCount.{LaneCount}
 
 -- the tasks are those of the plan's loops

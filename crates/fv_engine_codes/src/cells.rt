@@ -1,9 +1,9 @@
 // The places of cells in the lists of their loops.
 
 ghost use Rattle.std.specs.Prelude.{IfOk};
-ghost use Rattle.fv_engine_lanes.specs.Cells.{ArePlaced};
+ghost use Rattle.fv_engine_codes.specs.Cells.{ArePlaced};
 
-use fv_engine_lanes::CellPlaces;
+use crate::CellPlaces;
 use fv_split_plan::Plan;
 use std::alloc::{AllocError, Global};
 

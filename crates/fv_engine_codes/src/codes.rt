@@ -1,13 +1,13 @@
 // The codes of all loops.
 
 ghost use Rattle.std.specs.Prelude.{◌≡◌, ◌<◌, ℕ, length, IfOk};
-ghost use Rattle.fv_engine_lanes.specs.Plans.{IsLocalCode};
+ghost use Rattle.fv_engine_codes.specs.Plans.{IsLocalCode};
 ghost use Rattle.fv_engine_codes.specs.Codes.{AreLocalCodes, AreOfPlan};
 ghost use Rattle.fv_engine_codes.specs.inner.Numbered.{AreLanesByLoop};
 
+use crate::local_code;
 use crate::numbers::number_lanes;
 use crate::owners::lanes_by_loop;
-use fv_engine_lanes::local_code;
 use fv_graph::Tasks;
 use fv_loopcode::Counts;
 use fv_loopcode_machine::Code;

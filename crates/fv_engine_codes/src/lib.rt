@@ -1,12 +1,21 @@
-//! The codes of a plan's loops, each over the lanes that its loop sees, how many these are, and the places of all cells.
+//! The codes of a plan's loops, each over the lanes that its loop sees, how many these are, and the places of all cells; the lanes and
+//! cells of one loop, as a worker that has them alone sees them.
 #![tactic(auto)]
 
 mod cells;
 mod codes;
 mod counts;
+mod laws;
+mod local;
+mod loop_cells;
+mod loop_lanes;
 mod numbers;
 mod owners;
 
 pub use cells::place_cells;
 pub use codes::local_codes;
 pub use counts::{LaneCount, lane_counts};
+pub use laws::renumbered_code_obeys;
+pub use local::local_code;
+pub use loop_cells::{CellPlaces, LoopCells};
+pub use loop_lanes::LoopLanes;

@@ -3,7 +3,7 @@
 ghost use Rattle.std.specs.Prelude.{◌≡◌, ℕ, ◌+◌, ◌<◌, ◌≤◌, ◌++◌, List, length, All, slice_index_or};
 ghost use Rattle.std.specs.Global.{Vec};
 ghost use Rattle.fv_graph.specs.Graph.{no_reads};
-ghost use Rattle.fv_engine_lanes.specs.Plans.{locals_of};
+ghost use Rattle.fv_engine_codes.specs.Plans.{locals_of};
 ghost use Rattle.fv_engine_codes.specs.inner.Numbered.{AreNumbered, AreOnce, AreLanesByLoop};
 ghost use Rattle.fv_engine_codes.specs.Codes.{AreOfPlan};
 

@@ -13,10 +13,10 @@ use Rattle.fv_lines.specs.Writer.{list_of, shape_of, written_by, frames_of}
 use Rattle.fv_lines.specs.declared.shape.LaneShape.{LaneShape}
 use Rattle.fv_lines.specs.declared.shape.LaneState.{LaneState}
 use Rattle.fv_lines.specs.declared.writer.LaneWriter.{LaneWriter}
-use Rattle.fv_lines_cut.specs.Cut.{lengths_by, MayBegin, IsBegun, AreBegun}
-use Rattle.fv_engine_lanes.specs.Lanes.{lane_open}
-use Rattle.fv_engine_parcels.specs.Contents.{SameWriter}
-use Rattle.fv_engine_parcels.proofs.lemmas.Handing.{element}
+use Rattle.fv_lines.specs.Cut.{lengths_by, MayBegin, IsBegun, AreBegun}
+use Rattle.fv_engine_codes.specs.Lanes.{lane_open}
+use Rattle.fv_engine_crew.specs.Contents.{SameWriter}
+use Rattle.fv_engine_crew.proofs.lemmas.Handing.{element}
 use Rattle.fv_engine_crew.specs.declared.block.SpreadBlock.{SpreadBlock}
 use Rattle.fv_engine_crew.specs.Spread.{MayRunOver}
 use Rattle.fv_engine_crew.specs.inner.Lanes.{AreSame}

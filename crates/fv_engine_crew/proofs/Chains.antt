@@ -3,7 +3,7 @@ use Rattle.std.proofs.Common.{suc, List, [], ◌∷◌, sym, subst, ◌∙◌, a
 use base.Fml.{GName}
 use Rattle.fv_lines.specs.Writer.{outer_of}
 use Rattle.fv_lines.specs.declared.writer.LaneWriter.{LaneWriter}
-use Rattle.fv_lines_cut.specs.Cut.{IsChain}
+use Rattle.fv_lines.specs.Cut.{IsChain}
 use Rattle.fv_engine_crew.specs.inner.Lanes.{AreSame}
 
 -- the same writers are of the same chain

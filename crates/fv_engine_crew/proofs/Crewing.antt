@@ -3,17 +3,17 @@ use Rattle.std.proofs.Common.{◌≡◌, ℕ, ◌-◌, ◌*◌, List, sym, ap, �
 use Rattle.fv_outside.specs.headline.Tasks.{Tasks}
 use Rattle.fv_graph.specs.Graph.{stride, edges_of}
 use Rattle.fv_lines.specs.declared.writer.LaneWriter.{LaneWriter}
-use Rattle.fv_steal_block.specs.Parcels.{AreParcelsFrom}
+use Rattle.fv_steal.specs.Parcels.{AreParcelsFrom}
 use Rattle.fv_engine_tasks.specs.headline.Block.{vectors_of}
 use Rattle.std.specs.Prelude.{Vec, ℤ}
 use Rattle.std.specs.declared.alloc.Global.{Global}
 use Rattle.fv_engine_crew.specs.declared.block.SpreadBlock.{SpreadBlock}
 use Rattle.fv_engine_crew.specs.Spread.{tasks_of}
-use Rattle.fv_engine_parcels.specs.Contents.{tasks_in}
-use Rattle.fv_engine_parcels.specs.declared.start.Start.{Start}
-use Rattle.fv_engine_parcels.specs.declared.parcel.LoopParcel.{LoopParcel}
-use Rattle.fv_engine_spread.specs.Collected.{AreChainParcels}
-use Rattle.fv_engine_crew.proofs.Writers.{Started}
+use Rattle.fv_engine_crew.specs.Contents.{tasks_in}
+use Rattle.fv_engine_crew.specs.declared.start.Start.{Start}
+use Rattle.fv_engine_crew.specs.declared.parcel.LoopParcel.{LoopParcel}
+use Rattle.fv_engine_crew.specs.Collected.{AreChainParcels}
+use Rattle.fv_engine_crew.proofs.ReturnedWriters.{Started}
 
 -- so many parcels, one for each edge from one on
 abbrev pub AreFrom : Start → (from loops : ℕ) → List LoopParcel → Type 0

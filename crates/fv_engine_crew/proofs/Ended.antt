@@ -10,9 +10,9 @@ use Rattle.fv_lines.specs.Writer.{content_of, shape_of}
 use Rattle.fv_lines.specs.declared.shape.LaneShape.{LaneShape}
 use Rattle.fv_lines.specs.declared.shape.LaneState.{LaneState}
 use Rattle.fv_lines.specs.declared.writer.LaneWriter.{LaneWriter}
-use Rattle.fv_lines_cut.specs.Cut.{lengths_by, AreBegun, HoldEnds, HoldStarts}
-use Rattle.fv_engine_lanes.specs.Lanes.{lane_open}
-use Rattle.fv_engine_parcels.proofs.lemmas.Handing.{element}
+use Rattle.fv_lines.specs.Cut.{lengths_by, AreBegun, HoldEnds, HoldStarts}
+use Rattle.fv_engine_codes.specs.Lanes.{lane_open}
+use Rattle.fv_engine_crew.proofs.lemmas.Handing.{element}
 use Rattle.fv_engine_crew.specs.Spread.{HoldAsBefore}
 use Rattle.fv_engine_crew.specs.inner.Lanes.{AreSame, AreUntouched}
 use Rattle.fv_engine_crew.proofs.Parts.{parts_are}

@@ -13,14 +13,14 @@ use Rattle.fv_split_plan.specs.Rows.{lists_of}
 use Rattle.fv_lines.specs.Writer.{written_by, frames_of}
 use Rattle.fv_lines.specs.declared.shape.LaneState.{LaneState}
 use Rattle.fv_lines.specs.declared.writer.LaneWriter.{LaneWriter}
-use Rattle.fv_lines_cut.specs.Cut.{lengths_by, AreBegun, HoldEnds}
+use Rattle.fv_lines.specs.Cut.{lengths_by, AreBegun, HoldEnds}
 use Rattle.fv_engine_tasks.specs.headline.Block.{vectors_of}
 use Rattle.fv_engine_tasks.specs.Block.{HoldUpTo, none_done, IsReal}
 use Rattle.fv_engine_tasks.specs.Outputs.{CanRead, sample_of}
 use Rattle.fv_engine_tasks.specs.Underway.{EndsBlock}
 use Rattle.fv_engine_tasks.proofs.lemmas.Full.{IsDone, can_read}
-use Rattle.fv_engine_lanes.specs.Lanes.{lane_open}
-use Rattle.fv_engine_parcels.proofs.lemmas.Handing.{element}
+use Rattle.fv_engine_codes.specs.Lanes.{lane_open}
+use Rattle.fv_engine_crew.proofs.lemmas.Handing.{element}
 use Rattle.fv_engine_crew.specs.declared.block.SpreadBlock.{SpreadBlock}
 use Rattle.fv_engine_crew.specs.Ran.{Ran}
 use Rattle.fv_engine_crew.specs.Spread.{block_in, tasks_of, IsSpread, MayRunOver, opening_of}

@@ -13,7 +13,7 @@ use Rattle.fv_lines.specs.Solo.{len_at}
 use Rattle.fv_lines.specs.Writer.{content_of}
 use Rattle.fv_lines.specs.declared.shape.LaneShape.{LaneShape}
 use Rattle.fv_lines.specs.declared.writer.LaneWriter.{LaneWriter}
-use Rattle.fv_lines_cut.specs.Cut.{lengths_by}
+use Rattle.fv_lines.specs.Cut.{lengths_by}
 
 -- lists of the same numbers
 pub same_numbers : (xs ys : List ℤ) → length xs ≡ length ys → ((k : ℕ) → k < length xs → argument xs k ≡ argument ys k) → xs ≡ ys

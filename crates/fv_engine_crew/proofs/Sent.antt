@@ -20,10 +20,10 @@ use Rattle.fv_pool.specs.contracts.cells.Cells as cells_of
 use Rattle.fv_pool.specs.contracts.loan.Link as link
 use Rattle.fv_pool.specs.contracts.loan.Halves as halves
 use Rattle.fv_loopcode.specs.contracts.step.Step as step
-use Rattle.fv_loopcode_rows.specs.contracts.action.Pair as pair
-use Rattle.fv_loopcode_rows.specs.contracts.action.Action as cycle_action
-use Rattle.fv_loopcode_rows.specs.contracts.operation.Operation as operation
-use Rattle.fv_split_components.specs.contracts.packed.Rows as rows
+use Rattle.fv_loopcode_steps.specs.contracts.action.Pair as pair
+use Rattle.fv_loopcode_steps.specs.contracts.action.Action as cycle_action
+use Rattle.fv_loopcode_steps.specs.contracts.operation.Operation as operation
+use Rattle.fv_components.specs.contracts.packed.Rows as rows
 use Rattle.fv_loopcode_machine.specs.contracts.cycles.Cycle as cycle
 use Rattle.fv_loopcode_machine.specs.contracts.cycles.Cycles as cycles
 use Rattle.fv_loopcode_machine.specs.contracts.places.Visit as visit
@@ -35,13 +35,13 @@ use Rattle.fv_lines.specs.contracts.row.Row as row
 use Rattle.fv_lines.specs.contracts.shape.LaneShape as lane_shape
 use Rattle.fv_lines.specs.contracts.writer.LaneWriter as writer
 use Rattle.fv_lines.specs.contracts.seen.Seen as seen
-use Rattle.fv_engine_lanes.specs.contracts.loop_cells.LoopCells as loop_cells
-use Rattle.fv_engine_lanes.specs.contracts.loop_lanes.LoopLanes as lanes
-use Rattle.fv_engine_parcels.specs.contracts.content.Writers as writers
-use Rattle.fv_engine_parcels.specs.contracts.content.SeenLanes as seen_lanes
-use Rattle.fv_engine_parcels.specs.contracts.content.Content as content
-use Rattle.fv_engine_parcels.specs.contracts.parcel.LoopParcel as parcel
-use Rattle.fv_engine_parcels.specs.contracts.body.LoopBody as body
+use Rattle.fv_engine_codes.specs.contracts.loop_cells.LoopCells as loop_cells
+use Rattle.fv_engine_codes.specs.contracts.loop_lanes.LoopLanes as lanes
+use Rattle.fv_engine_crew.specs.contracts.content.Writers as writers
+use Rattle.fv_engine_crew.specs.contracts.content.SeenLanes as seen_lanes
+use Rattle.fv_engine_crew.specs.contracts.content.Content as content
+use Rattle.fv_engine_crew.specs.contracts.parcel.LoopParcel as parcel
+use Rattle.fv_engine_crew.specs.contracts.body.LoopBody as body
 
 numbers : (ws : List ℤ) (b o : ℕ) → Keyless (cells (mem i32) ws b o)
 numbers [] b o = tt

@@ -5,15 +5,15 @@ use Rattle.fv_base.specs.declared.limits.TheConstants.{MOST_WORKERS}
 use Rattle.fv_outside.specs.headline.Tasks.{Tasks}
 use Rattle.fv_loopcode.specs.headline.State.{State}
 use Rattle.fv_split_plan.specs.Rows.{lists_of}
-use Rattle.fv_engine_lanes.specs.Cells.{ArePlaced}
+use Rattle.fv_engine_codes.specs.Cells.{ArePlaced}
 use Rattle.fv_lines.specs.Solo.{held_at, history_at, opening_lanes, AreHeld, AreFramed}
 use Rattle.fv_lines.specs.declared.shape.LaneShape.{LaneShape}
 use Rattle.fv_lines.specs.declared.shape.LaneState.{LaneState}
-use Rattle.fv_lines_cut.specs.Cut.{lengths_by}
+use Rattle.fv_lines.specs.Cut.{lengths_by}
 use Rattle.fv_engine_tasks.specs.Block.{Block, IsReal}
 use Rattle.fv_engine_tasks.specs.Jobs.{IsJob}
 use Rattle.fv_engine_codes.specs.Codes.{AreLocalCodes, AreLaneCounts}
-use Rattle.fv_engine_parcels.specs.Contents.{parts_of}
+use Rattle.fv_engine_crew.specs.Contents.{parts_of}
 use Rattle.fv_engine_crew.specs.declared.block.SpreadBlock.{SpreadBlock}
 
 -- the tasks

@@ -1,3 +1,4 @@
+pub mod Turns
 pub mod Buffers
 pub mod Lanes
 pub mod Packs

@@ -1,7 +1,6 @@
 // What a block that is spread over workers is of.
 
-use fv_engine_codes::LaneCount;
-use fv_engine_lanes::CellPlaces;
+use fv_engine_codes::{CellPlaces, LaneCount};
 use fv_graph::Tasks;
 use fv_lines::LaneShape;
 use fv_loopcode_machine::Code;

@@ -5,8 +5,7 @@ ghost use Rattle.fv_engine_crew.specs.Spread.{IsSpread};
 ghost use Rattle.fv_engine_crew.specs.inner.Buffers.{AreEmpty};
 
 use crate::block::SpreadBlock;
-use fv_engine_parcels::{LoopParcel, Writers};
-use fv_engine_spread::take_room;
+use crate::{LoopParcel, Writers, take_room};
 use fv_lines::LaneWriter;
 use fv_loopcode_machine::Scratch;
 use std::alloc::{AllocError, Global};

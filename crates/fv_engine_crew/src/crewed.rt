@@ -11,12 +11,12 @@ ghost use Rattle.fv_engine_crew.specs.inner.Lanes.{AreOpen, AreWhole, AreUntouch
 
 use crate::block::SpreadBlock;
 use crate::buffers::Buffers;
+use crate::collect;
 use crate::enter::enter;
-use fv_engine_spread::collect;
 use fv_lines::LaneWriter;
 use fv_loopcode_machine::Scratch;
 use fv_outside::{Gate, Line};
-use fv_steal_block::run_crew;
+use fv_steal::run_crew;
 use std::alloc::Global;
 use std::marker::Sync;
 use std::sync::Wait;

@@ -1,15 +1,16 @@
 // The lanes and cells of a block as its loops take them over.
 
 ghost use Rattle.std.specs.Prelude.{◌≡◌, ◌≤◌, length, vec_len, vec_capacity};
-ghost use Rattle.fv_steal_block.specs.Parcels.{AreParcelsFrom};
-ghost use Rattle.fv_engine_parcels.specs.declared.parcel.LoopParcel.{LoopParcel};
-ghost use Rattle.fv_engine_spread.specs.Rooms.{AreRooms};
+ghost use Rattle.fv_steal.specs.Parcels.{AreParcelsFrom};
+ghost use Rattle.fv_engine_crew.specs.declared.parcel.LoopParcel.{LoopParcel};
+ghost use Rattle.fv_engine_crew.specs.Rooms.{AreRooms};
 ghost use Rattle.fv_engine_crew.specs.Spread.{IsSpread, block_in, tasks_of};
 ghost use Rattle.fv_engine_crew.specs.inner.Lanes.{AreOpen, IsStartOf};
 
 use crate::block::SpreadBlock;
-use fv_engine_parcels::{LoopBody, LoopParcel, Start, Writers};
-use fv_engine_spread::{deal, dealt_rooms_enter, entries_of, swap_cells};
+use crate::{
+    LoopBody, LoopParcel, Start, Writers, deal, dealt_rooms_enter, entries_of, swap_cells,
+};
 use fv_lines::LaneWriter;
 use std::snapshot::Snapshot;
 

@@ -1,13 +1,36 @@
-//! A block by a crew of workers, over the cells of one region.
+//! A block by a crew of workers, over the cells of one region: the parcels of a block, and the body that runs its tasks over them,
+//! whichever worker has them; what its lists take of memory, how its lanes and cells go to their loops and come back, and the parcels
+//! with which it begins.
 #![tactic(auto)]
 
 mod block;
+mod body;
 mod buffers;
+mod cell_swap;
+mod content;
 mod crewed;
 mod enter;
+mod entries;
+mod handed_lanes;
+mod laws;
 mod lent;
+mod parcel;
+mod returned_lanes;
+mod room;
+mod scratch;
 mod spread;
+mod start;
 mod whole;
 
 pub use block::SpreadBlock;
+pub use body::LoopBody;
+pub use cell_swap::swap_cells;
+pub use content::{Content, SeenLanes, Writers};
+pub use entries::entries_of;
+pub use handed_lanes::deal;
+pub use laws::dealt_rooms_enter;
+pub use parcel::LoopParcel;
+pub use returned_lanes::collect;
+pub use room::take_room;
 pub use spread::run_spread;
+pub use start::Start;

@@ -4,7 +4,7 @@ ghost use Rattle.std.specs.Prelude.{◌≡◌, ◌*◌, ◌<◌, ◌≤◌, [], 
 ghost use Rattle.fv_outside.specs.Tasks.{task_count};
 ghost use Rattle.fv_outside.specs.declared.gate.Line.{Line};
 ghost use Rattle.fv_lines.specs.Solo.{AreHeld};
-ghost use Rattle.fv_lines_cut.specs.Cut.{lengths_by};
+ghost use Rattle.fv_lines.specs.Cut.{lengths_by};
 ghost use Rattle.fv_split_plan.specs.Rows.{lists_of};
 ghost use Rattle.fv_engine_crew.specs.Ran.{Ran};
 ghost use Rattle.fv_engine_crew.specs.Spread.{block_in, tasks_of, IsSpread, MayRunOver, opening_of, HoldAsBefore};

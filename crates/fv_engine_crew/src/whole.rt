@@ -4,16 +4,15 @@ ghost use Rattle.std.specs.Prelude.{◌≡◌, ℕ, ◌+◌, ◌*◌, ◌<◌, �
 ghost use Rattle.std.specs.List.{flat_map};
 ghost use base.Fml.{GName};
 ghost use Rattle.fv_lines.specs.Writer.{content_of, written_by, frames_of};
-ghost use Rattle.fv_lines_cut.specs.Cut.{IsChain, HoldEnds};
+ghost use Rattle.fv_lines.specs.Cut.{IsChain, HoldEnds};
 ghost use Rattle.fv_engine_tasks.specs.Outputs.{CanRead, sample_of};
-ghost use Rattle.fv_engine_lanes.specs.Lanes.{lane_open};
-ghost use Rattle.fv_engine_lanes.specs.Cells.{ArePlaced};
+ghost use Rattle.fv_engine_codes.specs.Lanes.{lane_open};
+ghost use Rattle.fv_engine_codes.specs.Cells.{ArePlaced};
 
 use crate::block::SpreadBlock;
-use fv_engine_lanes::{LoopCells, LoopLanes};
+use fv_engine_codes::{LoopCells, LoopLanes};
 use fv_engine_tasks::copy_outputs;
-use fv_lines::{LaneState, LaneWriter};
-use fv_lines_cut::end_lanes;
+use fv_lines::{LaneState, LaneWriter, end_lanes};
 use fv_pool::Ended;
 use std::alloc::Global;
 

@@ -1,7 +1,7 @@
 -- How a run of a diagram over a tape ends, from how its engine's run does.
 use Rattle.std.proofs.Common.{◌≡◌, ℕ, ◌*◌, List, length, ℤ, Option, ap, subst, ◌∙◌}
 use Rattle.fv_outside.specs.headline.Journal.{Told}
-use Rattle.fv_tape.specs.Acts.{Act}
+use Rattle.fv_outside.specs.Acts.{Act}
 use Rattle.fv_diagram.specs.headline.Diagram.{Diagram, inputs}
 use Rattle.fv_diagram.specs.Diagram.{IsWellFormed}
 use Rattle.fv_diagram.specs.Laws.{AnswersEach, AnswersWide}

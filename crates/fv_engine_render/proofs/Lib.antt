@@ -10,3 +10,5 @@ pub mod Whole
 pub mod Streaming
 pub mod Stopping
 pub mod Early
+pub mod Heard
+pub mod Ending

@@ -7,7 +7,7 @@ use Rattle.fv_diagram.specs.Diagram.{control_bound}
 use Rattle.fv_signal.specs.declared.signal.Signal.TheVariants.{Const}
 use Rattle.fv_signal.specs.headline.Value.{Graph}
 use Rattle.fv_propagate.specs.headline.Propagated.{NamesOf}
-use Rattle.fv_simplify.specs.Reducible.{AreShort}
+use Rattle.fv_simplify.specs.headline.Reducible.{AreShort}
 use Rattle.fv_propagate.proofs.lemmas.Named.{control_below}
 use Rattle.fv_split_plan.specs.headline.View.{PlanView}
 use Rattle.fv_split_plan.specs.headline.Plans.{IsPlanOf}

@@ -13,8 +13,8 @@ use Rattle.fv_interval.specs.headline.Laws.{IsOf}
 use Rattle.fv_propagate.specs.headline.Propagated.{AreTaken, NamesOf, NamesWithin}
 use Rattle.fv_propagate.specs.Propagated as propagated
 use Rattle.fv_simplify.specs.Nodes.{StandsAt}
-use Rattle.fv_simplify.specs.Reducible.{AreShort}
-use Rattle.fv_simplify.specs.ReducibleBeside.{AreSmall, IsSimpler}
+use Rattle.fv_simplify.specs.headline.Reducible.{AreShort}
+use Rattle.fv_simplify.specs.Reducible.{AreSmall, IsSimpler}
 use Rattle.fv_engine_render.specs.headline.Plans.{IsGraphOf}
 
 -- no delay of a diagram's graph is longer than an engine keeps

@@ -1,7 +1,7 @@
 -- How a run over a tape stops, from what holds as it goes on.
 use Rattle.std.proofs.Common.{◌≡◌, ℕ, ◌*◌, List, [], length, ℤ, Option, refl, ap, ◌∙◌, arith}
 use Rattle.fv_outside.specs.headline.Journal.{Told}
-use Rattle.fv_tape.specs.Acts.{Act, Beginning}
+use Rattle.fv_outside.specs.Acts.{Act, Beginning}
 use Rattle.fv_control.specs.declared.script.Change.{Change}
 use Rattle.fv_engine.specs.Stands.{EngineView}
 use Rattle.fv_engine_render.specs.Stops.{IsAct}

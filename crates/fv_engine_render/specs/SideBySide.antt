@@ -2,10 +2,10 @@
 use Rattle.std.specs.Prelude.{◌≡◌, ℕ, ◌<◌, List, length, slice_index_or}
 use Rattle.fv_signal.specs.headline.Value.{Graph}
 use Rattle.fv_diagram.specs.headline.Diagram.{inputs}
-use Rattle.fv_join_diagrams.specs.Job.{Job}
-use Rattle.fv_join_diagrams.specs.Joined.{IsJoined}
-use Rattle.fv_join_diagrams.specs.headline.Parts.{Part, side_by_side}
-use Rattle.fv_join_diagrams.specs.Parts.{AreWellFormed, spans_of}
+use Rattle.fv_compile.specs.declared.job.Job.{Job}
+use Rattle.fv_compile.specs.Joined.{IsJoined}
+use Rattle.fv_compile.specs.headline.Parts.{Part, side_by_side}
+use Rattle.fv_compile.specs.Parts.{AreWellFormed, spans_of}
 use Rattle.fv_engine_render.specs.headline.Plans.{IsGraphOf}
 
 -- the job's graph is one of the part's diagram, and the job has its inputs and controls

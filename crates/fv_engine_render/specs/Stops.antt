@@ -1,7 +1,7 @@
 -- How a run over a tape is set up, and how it ends early (this project's profile).
 use Rattle.std.specs.Prelude.{◌≡◌, ℕ, ◌*◌, ◌<◌, List, [], ◌++◌, length, ℤ, Option}
 use Rattle.fv_outside.specs.headline.Journal.{Told}
-use Rattle.fv_tape.specs.Acts.{Act, Beginning, Hearing, Saying}
+use Rattle.fv_outside.specs.Acts.{Act, Beginning, Hearing, Saying}
 use Rattle.fv_diagram.specs.headline.Diagram.{Diagram, inputs, outputs}
 use Rattle.fv_diagram.specs.Diagram.{IsWellFormed}
 use Rattle.fv_diagram.specs.headline.Samples.{answer_on}

@@ -2,3 +2,4 @@ pub mod Blocks
 pub mod Runs
 pub mod Plans
 pub mod Render
+pub mod Files

@@ -2,7 +2,7 @@
 
 ghost use Rattle.std.specs.Prelude.{◌≡◌, ◌≤◌, IfOk, length};
 ghost use Rattle.fv_base.specs.declared.limits.TheConstants.{MOST_CHANNELS};
-ghost use Rattle.fv_simplify.specs.Reducible.{AreShort};
+ghost use Rattle.fv_simplify.specs.headline.Reducible.{AreShort};
 ghost use Rattle.fv_engine_render.specs.Plans.{IsPlanned, FitsEngine, IsNew};
 ghost use Rattle.fv_engine_render.specs.inner.Plans.{NamesOnly};
 ghost use Rattle.fv_engine_render.specs.Render.{CanHave};

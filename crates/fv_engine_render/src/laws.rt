@@ -4,7 +4,7 @@ ghost use Rattle.fv_signal.specs.headline.Value.{Graph};
 ghost use Rattle.fv_engine_render.specs.Render.{RunsHaveLoops};
 ghost use Rattle.fv_engine_render.specs.SideBySide.{JoinedIsGraph};
 
-use fv_join_diagrams::{joined_are_wide, joined_names, joined_propagates};
+use fv_compile::{joined_are_wide, joined_names, joined_propagates};
 use fv_split_plan::outputs_need_loops;
 
 /// Where a diagram has an output, each run of it that has a block has a loop.

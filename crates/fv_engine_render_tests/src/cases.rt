@@ -11,7 +11,6 @@ use crate::memory::{Memory, MemoryTape};
 use fv_base::limits::{MOST_BLOCK, MOST_CHANNELS, MOST_VECTORS, MOST_WORKERS};
 use fv_control::{Change, Script, scripts_are_lawful};
 use fv_diagram::ControlInfo;
-use fv_diagram_play::play_script;
 use fv_engine_render::{Played, Ran, Ready, RunSizes, Source, initial_of, make_ready, render_tape};
 use fv_eval::Program;
 use fv_interval::{Delays, spans, spans_of};
@@ -22,7 +21,7 @@ use std::marker::Sync;
 use std::sync::Wait;
 use std::test::Fail;
 use std::thread::Threads;
-use test_programs::program_of;
+use test_diagrams::{play_script, program_of};
 
 /// A program, the changes of its controls, and an input of one channel, or of none.
 #[derive(Clone, Copy)]

@@ -1,6 +1,6 @@
 // A tape in memory.
 
-use fv_tape::Tape;
+use fv_outside::Tape;
 use std::convert::Infallible;
 
 /// The samples that are to be heard, and room for those that are said. Behind what is to be heard there are zeros, and what has no

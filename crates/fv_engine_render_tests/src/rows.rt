@@ -11,7 +11,7 @@ use std::process::Abort;
 use std::sync::Wait;
 use std::test::Fail;
 use std::thread::Threads;
-use test_gates::{Counter, block_of};
+use test_blocks::{Counter, block_of};
 
 // An echo three frames later, half as loud each time.
 const ECHO: Case = Case {

@@ -4,12 +4,12 @@ use Rattle.std.proofs.Common.{ltb, Option, None, Some, refl, ap, ◌∙◌, eq-e
 use Rattle.std.proofs.lemmas.Bool.{ne_eqb}
 use Rattle.std.specs.Prelude.{Result, Ok, Err, is_ok, OnOk}
 use Rattle.fv_outside.specs.Tasks.{times}
-use Rattle.fv_graph_core.specs.Ends.{is_empty, without, back_is, back_of}
+use Rattle.fv_graph.specs.Ends.{is_empty, without, back_is, back_of}
 use Rattle.fv_graph.specs.Net.{Net}
-use Rattle.fv_graph_core.specs.Core.{Now, is_run, deque_of, run_of, owes_of, is_free, is_legal, after}
-use Rattle.fv_graph_core.specs.Law.{AllLeft}
-use Rattle.fv_graph_core.specs.Running.{Running}
-use Rattle.fv_graph_core.specs.declared.event.Event.TheVariants.{Take, Finish, Arrive, Leave}
+use Rattle.fv_graph.specs.Core.{Now, is_run, deque_of, run_of, owes_of, is_free, is_legal, after}
+use Rattle.fv_graph.specs.Law.{AllLeft}
+use Rattle.fv_graph.specs.Running.{Running}
+use Rattle.fv_graph.specs.declared.event.Event.TheVariants.{Take, Finish, Arrive, Leave}
 use Rattle.fv_graph.proofs.lemmas.Counts.{bit_same, both_of}
 use Rattle.fv_engine_tasks.specs.Events.{IsFree, Runs, Owes, KeepsCore}
 

@@ -10,7 +10,7 @@ use Rattle.fv_outside.specs.headline.Journal.{is_line_of}
 use Rattle.fv_outside.specs.declared.tasks.Task.{Task}
 use Rattle.fv_outside.specs.declared.gate.Line.{Line}
 use Rattle.fv_graph.specs.Graph.{task_at, loop_of, vector_of}
-use Rattle.fv_graph_core.specs.Core.{Now, is_done}
+use Rattle.fv_graph.specs.Core.{Now, is_done}
 use Rattle.fv_graph.proofs.lemmas.Counts.{total_append, total_set, bit_same, both_of, either_left, either_right}
 use Rattle.fv_graph.proofs.lemmas.Graphs.{unique}
 use Rattle.fv_graph.proofs.lemmas.Ranges.{quotient_small}
@@ -23,7 +23,7 @@ use Rattle.fv_loopcode.specs.Blocks.{AreApart, before, one_more, TaskIsFree}
 use Rattle.fv_engine_tasks.specs.Block.{Block, ObeysBlock, HoldUpTo, IsReal}
 use Rattle.fv_engine_tasks.specs.Events.{IsFree}
 use Rattle.fv_engine_tasks.specs.Jobs.{IsJob, left_to_do}
-use Rattle.fv_graph_core.specs.Ready.{TakesReady}
+use Rattle.fv_graph.specs.Ready.{TakesReady}
 use Rattle.fv_engine_tasks.specs.Underway.{IsTaskIn, IsSoFar, IsUnderway, line_at, no_line}
 use Rattle.fv_engine_tasks.proofs.lemmas.Numbers.{at, number_is, below, inside, same_step}
 

@@ -1,7 +1,7 @@
 -- What the core of one worker is between events.
 use Rattle.std.specs.Prelude.{◌≡◌, ℕ, false, List, [], ◌∷◌, None, Some}
-use Rattle.fv_graph_core.specs.Core.{Now}
-use Rattle.fv_graph_core.specs.Running.{Running}
+use Rattle.fv_graph.specs.Core.{Now}
+use Rattle.fv_graph.specs.Running.{Running}
 
 -- the one worker runs nothing and owes nothing, and has not left
 pub record IsFree (s : Now) : Type 0 where

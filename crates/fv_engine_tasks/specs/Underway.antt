@@ -6,7 +6,7 @@ use Rattle.fv_outside.specs.headline.Journal.{is_line_of, IsOrdered}
 use Rattle.fv_outside.specs.declared.tasks.Task.{Task}
 use Rattle.fv_outside.specs.declared.gate.Line.{Line}
 use Rattle.fv_graph.specs.Graph.{task_at}
-use Rattle.fv_graph_core.specs.Core.{Now, is_done}
+use Rattle.fv_graph.specs.Core.{Now, is_done}
 use Rattle.fv_loopcode.specs.headline.State.{State}
 use Rattle.fv_loopcode.specs.Obeys.{Content}
 use Rattle.fv_engine_tasks.specs.Events.{IsFree}

@@ -13,7 +13,7 @@ use std::process::Abort;
 use std::sync::Wait;
 use std::test::Fail;
 use std::thread::Threads;
-use test_gates::block_of;
+use test_blocks::block_of;
 use test_graphs::{by_a_control, delayed, difference};
 
 // A line of the first vector of a loop.

@@ -12,7 +12,7 @@ use std::process::Abort;
 use std::sync::Wait;
 use std::test::Fail;
 use std::thread::Threads;
-use test_gates::Counter;
+use test_blocks::Counter;
 use test_graphs::echo_left;
 
 // An echo of 1000: the same samples by blocks and vectors of each size, and the gate sees each task that is reported.

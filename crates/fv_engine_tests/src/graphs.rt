@@ -6,7 +6,7 @@ use fv_interval::{spans, spans_of};
 use fv_signal::Graph;
 use std::alloc::Global;
 use std::test::Fail;
-use test_programs::program_of;
+use test_diagrams::program_of;
 
 // The graph with which a program is played.
 fn graph_in(alloc: Global, program: &Program) -> Result<Graph, Fail> {

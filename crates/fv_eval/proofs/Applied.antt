@@ -7,7 +7,7 @@ use Rattle.fv_rules.specs.headline.Values.{Value, Flat, Abstraction, Rules, Boun
 use Rattle.fv_rules.specs.headline.Matching.{chosen}
 use Rattle.fv_rules.specs.headline.Steps.{State}
 use Rattle.fv_rules.specs.headline.Rules.{width}
-use Rattle.fv_eval_machine.specs.Machine.{Continuation, apply, select}
+use Rattle.fv_rules.specs.Machine.{Continuation, apply, select}
 use Rattle.fv_eval.specs.inner.Continuations.{took, completed}
 
 some_then : (b : Bool) (u v : Value) → (if b then Some u else None) ≡ Some v → (b ≡ true) × (u ≡ v)

@@ -14,7 +14,7 @@ use Rattle.fv_rules.specs.headline.Values.{Value, Env}
 use Rattle.fv_rules.specs.headline.Steps.{State}
 use Rattle.fv_eval_scopes.specs.Shows.{ShowsEnv, ShowsTree, ShowsValue, ShowsValues}
 use Rattle.fv_eval_scopes.proofs.lemmas.Grown.{tree_grows, value_grows, values_grow}
-use Rattle.fv_eval_machine.specs.Machine.{Argument, Continuation, Valued, Visit, Config, Running, apply, next_argument}
+use Rattle.fv_rules.specs.Machine.{Argument, Continuation, Valued, Visit, Config, Running, apply, next_argument}
 use Rattle.fv_eval.specs.declared.continuation.Continuation.TheVariants as continuation
 use Rattle.fv_eval.specs.declared.continuation.ForValue.TheVariants as valued
 use Rattle.fv_eval.specs.declared.continuation.Focus as code_focus

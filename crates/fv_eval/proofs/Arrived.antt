@@ -14,9 +14,9 @@ use Rattle.fv_rules.specs.headline.Matching.{settled, value_number}
 use Rattle.fv_rules.specs.headline.Rules.{read_number, slider_kind}
 use Rattle.fv_eval_scopes.specs.Shows.{ShowsTree, ShowsValue, ShowsValues, ShowsEnv}
 use Rattle.fv_eval_scopes.proofs.lemmas.Grown.{tree_grows, value_grows, env_grows, values_grow}
-use Rattle.fv_eval_machine.specs.Machine.{ForValue, Function, Argument, Leftover, Parameter, ForDiagram, Continuation, Valued, Drawn}
-use Rattle.fv_eval_machine.specs.Machine.{apply, arrives, next_argument}
-use Rattle.fv_eval_machine.specs.Machine.{parameter_read, to_diagram, value_arrives}
+use Rattle.fv_rules.specs.Machine.{ForValue, Function, Argument, Leftover, Parameter, ForDiagram, Continuation, Valued, Drawn}
+use Rattle.fv_rules.specs.Machine.{apply, arrives, next_argument}
+use Rattle.fv_rules.specs.Machine.{parameter_read, to_diagram, value_arrives}
 use Rattle.fv_eval.specs.declared.continuation.Continuation as code_continuation
 use Rattle.fv_eval.specs.declared.continuation.Continuation.TheVariants as continuation
 use Rattle.fv_eval.specs.declared.continuation.Focus as code_focus

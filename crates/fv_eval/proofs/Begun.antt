@@ -19,7 +19,7 @@ use Rattle.fv_rules.specs.headline.Steps.{State, no_diagram}
 use Rattle.fv_rules.specs.headline.Rules.{slider_kind}
 use Rattle.fv_eval_scopes.specs.Shows.{ShowsTree, ShowsEnv, body_in, parameters_in, case_in}
 use Rattle.fv_eval_scopes.proofs.lemmas.Grown.{opened_shows}
-use Rattle.fv_eval_machine.specs.Machine.{Continuation, Visit, Running, Ended, begin, next_parameter}
+use Rattle.fv_rules.specs.Machine.{Continuation, Visit, Running, Ended, begin, next_parameter}
 use Rattle.fv_eval.specs.declared.continuation.Focus as code_focus
 use Rattle.fv_eval.specs.declared.continuation.Focus.TheVariants as focus
 use Rattle.fv_eval.specs.declared.machine.Machine as code_machine

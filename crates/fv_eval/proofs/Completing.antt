@@ -22,9 +22,9 @@ use Rattle.fv_rules.specs.headline.Steps.{no_rule}
 use Rattle.fv_eval_scopes.specs.Shows.{World, Grows, IsInside, ShowsBindings, ShowsEnv, ShowsTaken, ShowsTree, ShowsValue, ShowsValues, body_in, parameters_in}
 use Rattle.fv_eval_scopes.specs.Shows.{rules_in}
 use Rattle.fv_eval_patterns.specs.Patterns.{with_diagrams}
-use Rattle.fv_eval_choosing.specs.Chosen.{ShowsChoice}
+use Rattle.fv_eval_lookup.specs.Chosen.{ShowsChoice}
 use Rattle.fv_eval_scopes.proofs.lemmas.Grown.{env_grows, tree_grows, values_grow}
-use Rattle.fv_eval_machine.specs.Machine.{Leftover, Valued, Visit, Running, Ended, select}
+use Rattle.fv_rules.specs.Machine.{Leftover, Valued, Visit, Running, Ended, select}
 use Rattle.fv_eval.specs.declared.continuation.Focus as code_focus
 use Rattle.fv_eval.specs.declared.machine.Machine as code_machine
 use Rattle.fv_eval.specs.inner.Continuations.{AllDraw, AreShown, Chooses, Completes, Grew, IsShown, Selects, ShowsName, Steps, completed, world}

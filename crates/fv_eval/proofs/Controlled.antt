@@ -9,10 +9,10 @@ use Rattle.fv_eval_scopes.specs.declared.value.Value.TheVariants as value
 use Rattle.fv_rules.specs.headline.Values.{Flat}
 use Rattle.fv_rules.specs.headline.Steps.{after, give, control}
 use Rattle.fv_rules.specs.headline.Rules.{flat}
-use Rattle.fv_eval_machine.specs.Machine.{Give, Running, given}
+use Rattle.fv_rules.specs.Machine.{Give, Running, given}
 use Rattle.fv_eval.specs.declared.continuation.Focus.TheVariants as focus
 use Rattle.fv_eval.specs.declared.machine.Machine as code_machine
-use Rattle.fv_eval_controls.specs.Controls.{Enters}
+use Rattle.fv_eval_drawing.specs.Controls.{Enters}
 use Rattle.fv_eval.specs.inner.Continuations.{Steps, state_of}
 use Rattle.fv_eval.proofs.Moves.{drawn_grew, keeps_on}
 

@@ -13,8 +13,8 @@ use Rattle.fv_eval_scopes.specs.declared.value.Value as code_value
 use Rattle.fv_rules.specs.headline.Values.{Name, Value, Env}
 use Rattle.fv_eval_scopes.specs.Shows.{World, Draws, Grows}
 use Rattle.fv_eval_scopes.proofs.lemmas.Grown.{tree_grows, value_grows, env_grows, values_grow}
-use Rattle.fv_eval_machine.specs.Machine.{ForValue, Function, Argument, Leftover, Parameter, ForDiagram, Left, Right, Later, Negated, Ports, Binding, Turning}
-use Rattle.fv_eval_machine.specs.Machine.{Counting, Body, Finish, Continuation, Valued, Drawn}
+use Rattle.fv_rules.specs.Machine.{ForValue, Function, Argument, Leftover, Parameter, ForDiagram, Left, Right, Later, Negated, Ports, Binding, Turning}
+use Rattle.fv_rules.specs.Machine.{Counting, Body, Finish, Continuation, Valued, Drawn}
 use Rattle.fv_eval_drawing.specs.Makes.{trees_of}
 use Rattle.fv_eval.specs.declared.continuation.Continuation as code_continuation
 use Rattle.fv_eval.specs.declared.continuation.Continuation.TheVariants as continuation

@@ -20,7 +20,7 @@ use Rattle.fv_rules.specs.Numbers.{number_of}
 use Rattle.fv_rules.specs.headline.Rules.{counted, gathered}
 use Rattle.fv_eval_scopes.specs.Shows.{Draws, IsNamed, ShowsEnv, ShowsTree}
 use Rattle.fv_eval_scopes.proofs.lemmas.Grown.{env_grows}
-use Rattle.fv_eval_machine.specs.Machine.{Body, Continuation, Drawn, Visit, Running, first_body, next_body}
+use Rattle.fv_rules.specs.Machine.{Body, Continuation, Drawn, Visit, Running, first_body, next_body}
 use Rattle.fv_eval.specs.declared.continuation.Continuation.TheVariants as continuation
 use Rattle.fv_eval.specs.declared.continuation.ForDiagram.TheVariants as drawn
 use Rattle.fv_eval.specs.declared.continuation.Focus as code_focus

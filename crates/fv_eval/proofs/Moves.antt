@@ -18,8 +18,8 @@ use Rattle.fv_eval_scopes.proofs.lemmas.Grown.{diagrams_come, scope_opens, grows
 use Rattle.fv_eval_patterns.specs.Remembered.{Remembered}
 use Rattle.fv_eval_patterns.specs.Trials.{Recalls}
 use Rattle.fv_eval_patterns.proofs.lemmas.LongPatterns.{recalls_grow}
-use Rattle.fv_eval_choosing.proofs.lemmas.Skipped.{shortcuts_grow}
-use Rattle.fv_eval_machine.specs.Machine.{Continuation, Visit, Give, Config, Running, Ended, given}
+use Rattle.fv_eval_lookup.proofs.lemmas.Skipped.{shortcuts_grow}
+use Rattle.fv_rules.specs.Machine.{Continuation, Visit, Give, Config, Running, Ended, given}
 use Rattle.fv_eval.specs.declared.continuation.Focus as code_focus
 use Rattle.fv_eval.specs.declared.continuation.Focus.TheVariants as focus
 use Rattle.fv_eval.specs.declared.machine.Machine as code_machine

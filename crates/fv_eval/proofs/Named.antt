@@ -6,7 +6,7 @@ use Rattle.fv_eval_scopes.specs.declared.value.Value as code_value
 use Rattle.fv_eval_scopes.specs.declared.value.Meaning.TheVariants as meaning
 use Rattle.fv_rules.specs.headline.Values.{Name, Abstraction, Rules, Nothing, Plain, Parameters, Cases, Meaning, IsValue, IsDefined, Unknown}
 use Rattle.fv_eval_scopes.specs.Shows.{ShowsMeaning}
-use Rattle.fv_eval_machine.specs.Machine.{Continuation, Ended, begin_name}
+use Rattle.fv_rules.specs.Machine.{Continuation, Ended, begin_name}
 use Rattle.fv_eval.specs.declared.continuation.Focus.TheVariants as focus
 use Rattle.fv_eval.specs.declared.machine.Machine as code_machine
 use Rattle.fv_eval.specs.inner.Continuations.{world, state_of, Keeps, Goes}

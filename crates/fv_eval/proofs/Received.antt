@@ -24,8 +24,8 @@ use Rattle.fv_rules.specs.Numbers.{number_of}
 use Rattle.fv_rules.specs.headline.Steps.{Eval, put}
 use Rattle.fv_rules.specs.headline.Rules.{bind_all, counted, fed, flat, joined, operated, ports}
 use Rattle.fv_eval_scopes.specs.Shows.{World, Draws, ShowsTree, ShowsValues, ShowsEnv}
-use Rattle.fv_eval_machine.specs.Machine.{ForDiagram, Left, Right, Later, Negated, Ports, Binding, Turning, Counting, Body, Finish, Drawn, Visit, Give, Running}
-use Rattle.fv_eval_machine.specs.Machine.{diagram_arrives, first_body, given, next_body, next_turned}
+use Rattle.fv_rules.specs.Machine.{ForDiagram, Left, Right, Later, Negated, Ports, Binding, Turning, Counting, Body, Finish, Drawn, Visit, Give, Running}
+use Rattle.fv_rules.specs.Machine.{diagram_arrives, first_body, given, next_body, next_turned}
 use Rattle.fv_eval.specs.declared.continuation.Continuation as code_continuation
 use Rattle.fv_eval.specs.declared.continuation.Continuation.TheVariants as continuation
 use Rattle.fv_eval.specs.declared.continuation.Focus as code_focus

@@ -23,7 +23,7 @@ use Rattle.fv_rules.specs.declared.refusal.TableCause.TheVariants as cause
 use Rattle.fv_rules.specs.headline.Steps.{State, Outcome, Eval, after, ◌>>=◌, give, refuse, whole as no_primitive}
 use Rattle.fv_rules.specs.headline.Rules.{ev, flat, finished, name_value, program_value, start, turned}
 use Rattle.fv_eval_scopes.specs.Shows.{ShowsValue, ShowsEnv}
-use Rattle.fv_eval_machine.specs.Machine.{Config, Drawn, Finish, Ended, StartsMean, StepsMean, first, meaning, step}
+use Rattle.fv_rules.specs.Machine.{Config, Drawn, Finish, Ended, StartsMean, StepsMean, first, meaning, step}
 use Rattle.fv_eval.specs.declared.continuation.Continuation as code_continuation
 use Rattle.fv_eval.specs.declared.continuation.Continuation.TheVariants as continuation
 use Rattle.fv_eval.specs.declared.continuation.ForDiagram.TheVariants as drawn

@@ -17,7 +17,7 @@ use Rattle.fv_rules.specs.headline.Matching.{value_number}
 use Rattle.fv_rules.specs.headline.Steps.{control, no_number}
 use Rattle.fv_rules.specs.headline.Rules.{flat, read_number, slider_info, slider_kind}
 use Rattle.fv_eval_scopes.specs.Shows.{World, ShowsValue}
-use Rattle.fv_eval_machine.specs.Machine.{Ended, given, next_parameter, parameter_read}
+use Rattle.fv_rules.specs.Machine.{Ended, given, next_parameter, parameter_read}
 use Rattle.fv_eval.specs.declared.continuation.Focus as code_focus
 use Rattle.fv_eval.specs.declared.machine.Machine as code_machine
 use Rattle.fv_eval.specs.inner.Continuations.{ShowsSlider, Steps, parameters_of, state_of, world}

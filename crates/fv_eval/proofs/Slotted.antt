@@ -16,7 +16,7 @@ use Rattle.fv_rules.specs.headline.Steps.{State, no_diagram}
 use Rattle.fv_rules.specs.headline.Rules.{on_slots}
 use Rattle.fv_eval_scopes.specs.Shows.{ShowsEnv, begins_in, body_in, parameters_in}
 use Rattle.fv_eval_scopes.proofs.lemmas.Grown.{env_grows, grows_on}
-use Rattle.fv_eval_machine.specs.Machine.{Binding, Continuation, Drawn, Visit, Running, Ended}
+use Rattle.fv_rules.specs.Machine.{Binding, Continuation, Drawn, Visit, Running, Ended}
 use Rattle.fv_eval.specs.declared.continuation.Continuation as code_continuation
 use Rattle.fv_eval.specs.declared.continuation.Continuation.TheVariants as continuation
 use Rattle.fv_eval.specs.declared.continuation.ForDiagram as code_for_diagram

@@ -8,7 +8,7 @@ use Rattle.fv_eval_scopes.specs.declared.value.Value as code_value
 use Rattle.fv_rules.specs.headline.Values.{Name, Env, lookup}
 use Rattle.fv_rules.specs.headline.Steps.{State, Outcome, spent}
 use Rattle.fv_eval_scopes.specs.Shows.{ShowsEnv, IsNamed}
-use Rattle.fv_eval_machine.specs.Machine.{Config, begin, begin_name, calling, step, visiting}
+use Rattle.fv_rules.specs.Machine.{Config, begin, begin_name, calling, step, visiting}
 use Rattle.fv_eval.specs.declared.continuation.Focus as code_focus
 use Rattle.fv_eval.specs.declared.continuation.Focus.TheVariants as focus
 use Rattle.fv_eval.specs.declared.machine.Machine as code_machine

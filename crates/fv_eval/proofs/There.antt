@@ -12,7 +12,7 @@ use Rattle.fv_rules.specs.headline.Values.{Value, Flat, Abstraction, Rules}
 use Rattle.fv_eval_scopes.specs.Shows.{World, Draws, Grows, ShowsValue, ShowsValues}
 use Rattle.fv_rules.specs.headline.Matching.{settled}
 use Rattle.fv_eval_scopes.proofs.lemmas.Grown.{value_grows, values_grow}
-use Rattle.fv_eval_machine.specs.Machine.{ForValue, Argument, ForDiagram, Left, Right, Binding, Turning, Counting, Body}
+use Rattle.fv_rules.specs.Machine.{ForValue, Argument, ForDiagram, Left, Right, Binding, Turning, Counting, Body}
 use Rattle.fv_eval_drawing.specs.Makes.{IsThere as IsDrawn}
 use Rattle.fv_eval.specs.declared.continuation.ForValue.TheVariants as valued
 use Rattle.fv_eval.specs.declared.continuation.ForDiagram as code_for_diagram

@@ -7,7 +7,7 @@ use Rattle.fv_rules.specs.declared.refusal.EvalRefusal.{EvalRefusal}
 use Rattle.fv_eval_scopes.specs.declared.value.Value as code_value
 use Rattle.fv_rules.specs.headline.Values.{Env}
 use Rattle.fv_eval_scopes.specs.Shows.{ShowsEnv, ShowsTree, ShowsValues}
-use Rattle.fv_eval_machine.specs.Machine.{Leftover, Continuation, Valued, Visit, Running}
+use Rattle.fv_rules.specs.Machine.{Leftover, Continuation, Valued, Visit, Running}
 use Rattle.fv_eval.specs.declared.continuation.Continuation as code_continuation
 use Rattle.fv_eval.specs.declared.continuation.Continuation.TheVariants as continuation
 use Rattle.fv_eval.specs.declared.continuation.ForValue.TheVariants as valued

@@ -6,14 +6,14 @@ ghost use Rattle.fv_parse.specs.Trees.{Parsed, size_of, tree_in};
 ghost use Rattle.fv_rules.specs.headline.Values.{Env, Taken, Value as Meant};
 ghost use Rattle.fv_rules.specs.headline.Steps.{no_rule};
 ghost use Rattle.fv_eval_scopes.specs.Shows.{IsInside, ShowsEnv, ShowsTaken, ShowsTree, ShowsValue, ShowsValues};
-ghost use Rattle.fv_eval_machine.specs.Machine.{Leftover as Left, Running, Valued, Visit, apply, next_argument};
+ghost use Rattle.fv_rules.specs.Machine.{Leftover as Left, Running, Valued, Visit, apply, next_argument};
 ghost use Rattle.fv_eval.specs.inner.Continuations.{AreShown, Chooses, Completes, Grew, IsApplication, IsShown, Knows, Selects, ShowsTaking, Steps};
 ghost use Rattle.fv_eval.specs.inner.Continuations.{completed, took, world};
 
 use crate::continuation::{Continuation, Focus, ForValue};
 use crate::machine::Machine;
 use crate::names::{body_of, parameter, parameters};
-use fv_eval_choosing::Definitions;
+use fv_eval_lookup::Definitions;
 use fv_eval_patterns::Bindings;
 use fv_eval_scopes::{Ruled, Value};
 use fv_parse::{Tree, TreeId, TreeNode};

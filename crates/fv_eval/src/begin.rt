@@ -9,7 +9,7 @@ ghost use Rattle.fv_rules.specs.headline.Values.{Env, Flat, Name};
 ghost use Rattle.fv_rules.specs.headline.Rules.{flat, literal_value, slider_kind};
 ghost use Rattle.fv_rules.specs.headline.Steps.{waved};
 ghost use Rattle.fv_eval_scopes.specs.Shows.{IsNamed, ShowsEnv, ShowsTree};
-ghost use Rattle.fv_eval_machine.specs.Machine.{Call, Continuation as Waiting, Give, Running, Visit, given, next_parameter};
+ghost use Rattle.fv_rules.specs.Machine.{Call, Continuation as Waiting, Give, Running, Visit, given, next_parameter};
 ghost use Rattle.fv_eval.specs.inner.Continuations.{Begins, IsSlider, ShowsContinuation, ShowsSlider, Steps, world};
 
 use crate::arrive::give;
@@ -18,7 +18,7 @@ use crate::machine::Machine;
 use crate::names::canonical;
 use crate::turn::not_a_diagram;
 use fv_diagram::{Node, Prim};
-use fv_eval_choosing::Definitions;
+use fv_eval_lookup::Definitions;
 use fv_eval_scopes::{Ruled, Value};
 use fv_parse::{TreeId, TreeNode};
 use fv_parse_grammar::Literal;

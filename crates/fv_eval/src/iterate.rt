@@ -12,7 +12,7 @@ ghost use Rattle.fv_rules.specs.Numbers.{number_of};
 ghost use Rattle.fv_rules.specs.headline.Steps.{no_number};
 ghost use Rattle.fv_rules.specs.headline.Rules.{counted};
 ghost use Rattle.fv_eval_scopes.specs.Shows.{Draws, ShowsEnv, ShowsTree};
-ghost use Rattle.fv_eval_machine.specs.Machine.{first_body, next_body};
+ghost use Rattle.fv_rules.specs.Machine.{first_body, next_body};
 ghost use Rattle.fv_eval_drawing.specs.Makes.{AreThere};
 ghost use Rattle.fv_eval.specs.inner.Continuations.{AreIndexed, IsIteration, ShowsBodies, Steps, world};
 
@@ -21,7 +21,7 @@ use crate::continuation::{Continuation, Focus, ForDiagram};
 use crate::machine::Machine;
 use crate::names::canonical;
 use fv_diagram::{DiagramId, Node};
-use fv_eval_choosing::Definitions;
+use fv_eval_lookup::Definitions;
 use fv_eval_scopes::Value;
 use fv_parse::{Tree, TreeId, TreeNode};
 use fv_rules::EvalRefusal;

@@ -12,6 +12,6 @@ mod sliders;
 mod turn;
 mod whole;
 
-pub use fv_eval_controls::Controls;
+pub use fv_eval_drawing::Controls;
 pub use fv_rules::EvalRefusal;
 pub use whole::{Program, evaluate};

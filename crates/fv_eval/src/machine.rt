@@ -6,18 +6,16 @@ ghost use Rattle.fv_parse.specs.Trees.{Parsed};
 ghost use Rattle.fv_rules.specs.headline.Values.{Env, Name, Scope, Value as Meant};
 ghost use Rattle.fv_rules.specs.headline.Steps.{Outcome};
 ghost use Rattle.fv_eval_scopes.specs.Shows.{IsNamed, ShowsEnv, ShowsTree};
-ghost use Rattle.fv_eval_machine.specs.Machine.{Call, Config, Continuation as Waiting, Running, Visit, step};
+ghost use Rattle.fv_rules.specs.Machine.{Call, Config, Continuation as Waiting, Running, Visit, step};
 ghost use Rattle.fv_eval.specs.inner.Continuations.{Continues, Ends, Goes, IsNew, Runs, ShowsContinuation, Steps, world};
 
 use crate::continuation::{Continuation, Continuations, Focus};
-use fv_eval_choosing::{Definitions, Shortcuts};
-use fv_eval_controls::Controls;
-use fv_eval_drawing::Drawing;
-use fv_eval_machine::steps_mean;
+use fv_eval_drawing::{Controls, Drawing};
+use fv_eval_lookup::{Definitions, Shortcuts};
 use fv_eval_patterns::Trials;
 use fv_eval_scopes::{Scopes, Value};
 use fv_parse::TreeId;
-use fv_rules::{EvalRefusal, too_many_to_count};
+use fv_rules::{EvalRefusal, steps_mean, too_many_to_count};
 use std::alloc::Global;
 
 /// The lists of an evaluation.

@@ -5,13 +5,13 @@ ghost use Rattle.fv_parse.specs.headline.Trees.{text_of};
 ghost use Rattle.fv_parse.specs.Trees.{first_named, size_of, tree_in};
 ghost use Rattle.fv_rules.specs.headline.Values.{Env, Name, lookup};
 ghost use Rattle.fv_eval_scopes.specs.Shows.{IsNamed, ShowsEnv, body_in, parameters_in};
-ghost use Rattle.fv_eval_machine.specs.Machine.{begin_name};
+ghost use Rattle.fv_rules.specs.Machine.{begin_name};
 ghost use Rattle.fv_eval.specs.inner.Continuations.{ShowsName, Steps, name_of, world};
 
 use crate::continuation::Focus;
 use crate::machine::Machine;
 use fv_base::Word;
-use fv_eval_choosing::Definitions;
+use fv_eval_lookup::Definitions;
 use fv_eval_scopes::Meaning;
 use fv_parse::{Tree, TreeId, TreeNode, same_names};
 use fv_rules::EvalRefusal;

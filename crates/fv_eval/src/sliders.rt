@@ -11,14 +11,14 @@ ghost use Rattle.fv_rules.specs.headline.Steps.{control};
 ghost use Rattle.fv_rules.specs.headline.Rules.{flat, read_number, slider_info, slider_kind, switch_info, switch_kind};
 ghost use Rattle.fv_eval_scopes.specs.Shows.{ShowsValue};
 ghost use Rattle.fv_eval_drawing.specs.Makes.{IsThere as IsDrawn};
-ghost use Rattle.fv_eval_machine.specs.Machine.{given, next_parameter, parameter_read};
+ghost use Rattle.fv_rules.specs.Machine.{given, next_parameter, parameter_read};
 ghost use Rattle.fv_eval.specs.inner.Continuations.{IsSlider, IsThere, ShowsSlider, Steps, parameters_of, world};
 
 use crate::continuation::{Continuation, Focus, ForValue};
 use crate::iterate::not_a_number;
 use crate::machine::Machine;
 use fv_diagram::{ControlInfo, ControlKind, Label, Node};
-use fv_eval_choosing::Definitions;
+use fv_eval_lookup::Definitions;
 use fv_eval_scopes::Value;
 use fv_parse::{Tree, TreeId, TreeNode};
 use fv_parse_grammar::{Slider, Switch};

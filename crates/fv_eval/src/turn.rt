@@ -9,7 +9,7 @@ ghost use Rattle.fv_rules.specs.headline.Values.{Env, Value as Meant};
 ghost use Rattle.fv_rules.specs.headline.Steps.{no_diagram};
 ghost use Rattle.fv_rules.specs.headline.Rules.{on_slots};
 ghost use Rattle.fv_eval_scopes.specs.Shows.{Draws, IsInside, ShowsEnv, ShowsValue, ShowsValues, begins_in, parameters_in};
-ghost use Rattle.fv_eval_machine.specs.Machine.{ForDiagram as Drawing, next_turned, to_diagram};
+ghost use Rattle.fv_rules.specs.Machine.{ForDiagram as Drawing, next_turned, to_diagram};
 ghost use Rattle.fv_eval_drawing.specs.Makes.{AreThere};
 ghost use Rattle.fv_eval.specs.inner.Continuations.{AllDraw, DrawnThere, IsShown, ShowsForDiagram, Slots, Steps, world};
 
@@ -18,7 +18,7 @@ use crate::continuation::{Continuation, Focus, ForDiagram};
 use crate::machine::Machine;
 use crate::names::{body_of, parameter, parameters};
 use fv_diagram::{DiagramId, Node};
-use fv_eval_choosing::Definitions;
+use fv_eval_lookup::Definitions;
 use fv_eval_scopes::{Ruled, Value};
 use fv_parse::{Tree, TreeId};
 use fv_rules::{EvalRefusal, too_many_to_count};

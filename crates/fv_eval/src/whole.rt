@@ -13,7 +13,7 @@ ghost use Rattle.fv_eval_scopes.specs.declared.value.Value.TheVariants.{Diagram}
 ghost use Rattle.fv_rules.specs.headline.Values.{is_of};
 ghost use Rattle.fv_rules.specs.headline.Rules.{program_value, start};
 ghost use Rattle.fv_rules.specs.Runnable.{IsRunnable};
-ghost use Rattle.fv_eval_machine.specs.Machine.{first, meaning};
+ghost use Rattle.fv_rules.specs.Machine.{first, meaning};
 ghost use Rattle.fv_eval.specs.inner.Continuations.{Continues, IsNew};
 ghost use Rattle.fv_eval.specs.inner.Names.{defined_by};
 
@@ -23,12 +23,11 @@ use crate::names::canonical;
 use fv_base::Word;
 use fv_base::limits::VISIT_LIMIT;
 use fv_diagram::{DiagramId, Diagrams};
-use fv_eval_choosing::Definitions;
-use fv_eval_controls::Controls;
-use fv_eval_machine::steps_mean;
+use fv_eval_drawing::Controls;
+use fv_eval_lookup::Definitions;
 use fv_eval_scopes::Value;
 use fv_parse::{Tree, TreeId, TreeNode};
-use fv_rules::{EvalRefusal, TableCause, evaluates_to_runnables};
+use fv_rules::{EvalRefusal, TableCause, evaluates_to_runnables, steps_mean};
 use std::alloc::{AllocError, Global};
 use std::marker::Model;
 

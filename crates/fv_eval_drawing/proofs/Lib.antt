@@ -9,3 +9,4 @@ pub mod Tabling
 pub mod Fed
 pub mod Kept
 pub mod Remembered
+pub mod Labels

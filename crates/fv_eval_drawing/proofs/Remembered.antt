@@ -16,7 +16,7 @@ use Rattle.fv_eval_scopes.specs.declared.memo.Known.{Known}
 use Rattle.fv_eval_scopes.specs.declared.memo.Known.TheVariants as known
 use Rattle.fv_eval_scopes.specs.declared.value.Value as code_value
 use Rattle.fv_eval_scopes.specs.declared.value.Value.TheVariants as value
-use Rattle.fv_diagram_head.specs.Numbers.{number_of}
+use Rattle.fv_diagram_numbers.specs.headline.Numbers.{number_of}
 use Rattle.fv_eval_scopes.specs.Memo.{AddsIntegers, IsInteger, IsKnown, Remembers}
 use Rattle.fv_eval_patterns.specs.Patterns.{IsValid}
 use Rattle.fv_eval_scopes.proofs.lemmas.Added.{adds_keeps, adds_longer}

@@ -10,10 +10,10 @@ use Rattle.fv_rules.specs.ArityKind.TheVariants as kind
 use Rattle.fv_diagram.specs.declared.node.Node.TheVariants as node
 use Rattle.fv_diagram.specs.headline.Diagram.{Diagram, Par, Seq, Table, outputs, size, table_inputs}
 use Rattle.fv_diagram.specs.Arena.{Arena, count_of, list_at, tree_of, tree_with}
-use Rattle.fv_diagram_head.specs.Numbers.{at_first}
-use Rattle.fv_diagram_head.specs.headline.Heads.{all_outputs, cut, is_fixed, is_head, parts, table_numbers}
-use Rattle.fv_diagram_head.proofs.lemmas.Closed.{fixed_beside}
-use Rattle.fv_diagram_head.proofs.lemmas.Outputs.{cut_outputs, parts_outputs}
+use Rattle.fv_diagram_numbers.specs.headline.Numbers.{at_first}
+use Rattle.fv_diagram_numbers.specs.headline.Heads.{all_outputs, cut, is_fixed, is_head, parts, table_numbers}
+use Rattle.fv_diagram_numbers.proofs.lemmas.Closed.{fixed_beside}
+use Rattle.fv_diagram_numbers.proofs.lemmas.Outputs.{cut_outputs, parts_outputs}
 use Rattle.fv_rules.specs.declared.refusal.EvalRefusal.{EvalRefusal}
 use Rattle.fv_rules.specs.declared.refusal.EvalRefusal.TheVariants.{Arity, SizeBudget, TableForm}
 use Rattle.fv_rules.specs.declared.refusal.TableCause.TheVariants as cause

@@ -1,2 +1,3 @@
 -- The lemmas that proofs of other crates take.
 pub mod Gathered
+pub mod Entered

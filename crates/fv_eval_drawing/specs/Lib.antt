@@ -1,3 +1,4 @@
 pub mod Makes
 pub mod Lists
 pub mod inner
+pub mod Controls

@@ -5,7 +5,7 @@ use Rattle.fv_diagram.specs.declared.node.Node.TheVariants as node
 use Rattle.fv_diagram.specs.headline.Diagram.{Diagram}
 use Rattle.fv_diagram.specs.Composed.{IsComposed}
 use Rattle.fv_diagram.specs.Arena.{Arena, count_of, tree_of}
-pub use Rattle.fv_diagram_head.specs.Lists.{AreThere, trees_of}
+pub use Rattle.fv_diagram_numbers.specs.Lists.{AreThere, trees_of}
 use Rattle.fv_rules.specs.declared.refusal.EvalRefusal.{EvalRefusal}
 use Rattle.fv_rules.specs.declared.refusal.EvalRefusal.TheVariants.{NoMemory}
 use Rattle.fv_eval_scopes.specs.declared.value.Value as code_value

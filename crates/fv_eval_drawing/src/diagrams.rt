@@ -3,12 +3,12 @@
 ghost use Rattle.std.specs.Prelude.{◌≡◌, ◌*◌, ◌<◌, ◌≤◌, All, IfOk, List, length};
 ghost use Rattle.fv_diagram.specs.Arena.{ChildrenBelow, NamesLists, IsArity, count_of, empty_arena, tree_of, tree_with};
 ghost use Rattle.fv_diagram.specs.headline.Diagram.{has_table_primitive};
-ghost use Rattle.fv_diagram_head.specs.Numbers.{number_of};
+ghost use Rattle.fv_diagram_numbers.specs.headline.Numbers.{number_of};
 ghost use Rattle.fv_rules.specs.headline.Values.{Value as Meant};
 ghost use Rattle.fv_rules.specs.headline.Matching.{chosen, number_or};
 ghost use Rattle.fv_eval_scopes.specs.Shows.{World, IsInside, ShowsValues, rules_in};
 ghost use Rattle.fv_eval_patterns.specs.Patterns.{with_diagrams};
-ghost use Rattle.fv_eval_choosing.specs.Chosen.{ShowsChoice};
+ghost use Rattle.fv_eval_lookup.specs.Chosen.{ShowsChoice};
 ghost use Rattle.fv_eval_patterns.specs.Trials.{Recalls};
 ghost use Rattle.fv_rules.specs.headline.Steps.{put};
 ghost use Rattle.fv_rules.specs.Puts.{Puts};
@@ -17,7 +17,7 @@ ghost use Rattle.fv_base.specs.declared.limits.TheConstants.{SIZE_LIMIT};
 
 use fv_base::limits::MOST_DIAGRAMS;
 use fv_diagram::{Arity, DiagramId, Diagrams, Node};
-use fv_eval_choosing::Definitions;
+use fv_eval_lookup::Definitions;
 use fv_eval_patterns::{Bindings, Trials};
 use fv_eval_scopes::{Numbers, Ruled, Value};
 use fv_parse::TreeId;

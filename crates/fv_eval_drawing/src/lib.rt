@@ -1,12 +1,15 @@
 //! Putting the compositions that evaluation makes over diagrams that are there: of two parts, of lists, around a body,
-//! a diagram on its arguments, waveforms and tables.
+//! a diagram on its arguments, waveforms and tables. And the controls of a program as they come: one for each label, in the order of
+//! their first evaluation.
 #![tactic(auto)]
 
 mod application;
+mod controls;
 mod diagrams;
 mod lists;
 mod pairs;
 mod tables;
 
+pub use controls::Controls;
 pub use diagrams::Drawing;
 pub use lists::Link;

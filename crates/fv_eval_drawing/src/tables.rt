@@ -4,8 +4,8 @@ ghost use Rattle.std.specs.Prelude.{◌≡◌, ◌+◌, ◌<◌, ◌≤◌, leng
 ghost use Rattle.fv_num.specs.headline.Words.{argument};
 ghost use Rattle.fv_diagram.specs.headline.Diagram.{Primitive as Leaf, Seq, Table, outputs, size as size_of, table_inputs};
 ghost use Rattle.fv_diagram.specs.Arena.{ChildrenBelow, count_of, list_at, tree_of, tree_with};
-ghost use Rattle.fv_diagram_head.specs.Numbers.{at_first};
-ghost use Rattle.fv_diagram_head.specs.headline.Heads.{all_outputs, cut, is_fixed, is_head, parts, table_numbers};
+ghost use Rattle.fv_diagram_numbers.specs.headline.Numbers.{at_first};
+ghost use Rattle.fv_diagram_numbers.specs.headline.Heads.{all_outputs, cut, is_fixed, is_head, parts, table_numbers};
 ghost use Rattle.fv_rules.specs.headline.Steps.{put, sized, tabled, tabled_by, waved};
 ghost use Rattle.fv_eval_drawing.specs.declared.lists.Link.TheVariants as link;
 ghost use Rattle.fv_eval_drawing.specs.Lists.{all_from_right, linked};
@@ -16,7 +16,7 @@ ghost use Rattle.fv_base.specs.declared.limits.TheConstants.{SIZE_LIMIT};
 use crate::diagrams::Drawing;
 use fv_base::limits::TABLE_LIMIT;
 use fv_diagram::{DiagramId, Node, Prim};
-use fv_diagram_head::{Pieces, first_of, head_and_rest, is_head, numbers};
+use fv_diagram_numbers::{Pieces, first_of, head_and_rest, is_head, numbers};
 use fv_rules::{EvalRefusal, TableCause, too_many_to_count};
 use std::alloc::AllocError;
 

@@ -5,7 +5,7 @@ use Rattle.fv_diagram.specs.declared.node.Node.TheVariants as node
 use Rattle.fv_diagram.specs.Arena.{Arena, count_of, tree_of}
 use Rattle.fv_eval_scopes.specs.declared.memo.Known.{Known}
 use Rattle.fv_eval_scopes.specs.declared.memo.Known.TheVariants.{Unasked, Without, Number}
-use Rattle.fv_diagram_number.specs.headline.Numbers.{number_of}
+use Rattle.fv_diagram_numbers.specs.headline.Numbers.{number_of}
 
 -- what is remembered is the number of diagram i
 abbrev pub IsKnown : Arena → ℕ → Known → Type 0

@@ -4,13 +4,13 @@ ghost use Rattle.std.specs.Prelude.{◌≡◌, ◌<◌, ◌≤◌, ◌++◌, [],
 ghost use Rattle.fv_diagram.specs.headline.Diagram.{Constant};
 ghost use Rattle.fv_diagram.specs.Composed.{IsComposed};
 ghost use Rattle.fv_diagram.specs.Arena.{Arena, count_of, tree_of};
-ghost use Rattle.fv_diagram_number.specs.headline.Numbers.{number_of};
+ghost use Rattle.fv_diagram_numbers.specs.headline.Numbers.{number_of};
 ghost use Rattle.fv_rules.specs.headline.Matching.{number_or};
 ghost use Rattle.fv_eval_scopes.specs.Memo.{Remembers, AddsIntegers, IsKnown};
 
 use fv_base::limits::MOST_DIAGRAMS;
 use fv_diagram::{Arity, DiagramId, Diagrams, Node, PutRefusal};
-use fv_diagram_number::number_of;
+use fv_diagram_numbers::number_of;
 use fv_rules::too_many_to_keep;
 use std::alloc::{AllocError, Global};
 use std::marker::Model;

@@ -3,4 +3,4 @@ pub mod Tapes
 pub mod inner
 -- what it hands on of crates below
 pub use Rattle.fv_wav.specs.Stopping
-pub use Rattle.fv_tape.specs.Acts
+pub use Rattle.fv_outside.specs.Acts

@@ -11,7 +11,7 @@ use Rattle.fv_pcm.specs.Words.{is_sample_width}
 use Rattle.fv_outside.specs.headline.Requests.{to_write}
 use Rattle.fv_outside.specs.headline.Desk.{DeskState, GoesOn, HasFault, KeepsFaults, IsUnfailing}
 use Rattle.fv_outside.specs.Desk.{KeepsFaultsBut}
-use Rattle.fv_tape.specs.Acts.{Act, Beginning, Hearing, Saying}
+use Rattle.fv_outside.specs.Acts.{Act, Beginning, Hearing, Saying}
 use Rattle.fv_pcm.specs.declared.coding.Coding.{Coding}
 use Rattle.fv_pcm.specs.headline.Coded.{sample_bytes}
 use Rattle.fv_pcm.specs.Coded.{samples_in}

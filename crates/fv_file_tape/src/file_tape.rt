@@ -1,15 +1,14 @@
 // An input and an output, as a tape.
 
 ghost use Rattle.std.specs.Prelude.{◌≡◌, ◌+◌, ◌*◌, ◌/◌, ◌-◌, ◌≤◌, ℕ, ℤ, List, [], ◌++◌, length, OnOk, IfErr};
-ghost use Rattle.fv_tape.specs.Acts.{Act, Beginning, Hearing, Saying};
+ghost use Rattle.fv_outside.specs.Acts.{Act, Beginning, Hearing, Saying};
 ghost use Rattle.fv_file_tape.specs.Tapes.{IsTape, Streamed, StopsIn, channels_of, files_of};
 
 use crate::samples::{
     InputSamples, decode_behind, frame_size, read_samples, write_output_head, write_samples,
 };
-use fv_outside::{Desk, Role};
+use fv_outside::{Desk, Role, Tape};
 use fv_pcm::Coding;
-use fv_tape::Tape;
 
 /// Why it stops.
 #[derive(Clone, Copy)]

@@ -2,3 +2,11 @@ pub mod lemmas
 pub mod Rising
 pub mod ListsLemmas
 pub mod Made
+pub mod Valid
+pub mod Law
+pub mod Stepping
+pub mod Room
+pub mod Keeps
+pub mod Legal
+pub mod LeanLemmas
+pub mod Replaying

@@ -3,3 +3,7 @@ pub mod Counting
 pub mod Separators
 pub mod Between
 pub mod Fronts
+pub mod Positions
+pub mod Found
+pub mod Asked
+pub mod Heard

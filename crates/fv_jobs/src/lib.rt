@@ -1,11 +1,16 @@
-//! Files of jobs: the texts of programs that are to run side by side.
+//! Files of jobs: the texts of programs that are to run side by side. And the controls of several jobs that one script moves: their
+//! labels, and which changes are whose.
 #![tactic(auto)]
 
+mod control_laws;
 mod cut_lines;
 mod jobs;
+mod labels;
 mod laws;
 mod refusal;
 
+pub use control_laws::{changes_are_lawful, jobs_hear_their_changes, labels_are_of_jobs};
 pub use jobs::Jobs;
+pub use labels::append_controls;
 pub use laws::{front_is_enough, jobs_are_between};
 pub use refusal::JobsRefusal;

@@ -5,6 +5,7 @@ pub mod Seen
 pub mod Row
 pub mod Flat
 pub mod Solo
+pub mod Cut
 -- what it hands on of crates below
 pub use Rattle.fv_pool.specs.declared.loan.Halves
 pub use Rattle.fv_loopcode.specs.Lanes as LanesBeside

@@ -10,6 +10,7 @@ pub mod Journal
 pub mod Recorded
 pub mod Examples
 pub mod inner
+pub mod Acts
 -- what it hands on of crates below
 pub use Rattle.fv_base.specs.declared.role.Role
 pub use Rattle.fv_base.specs.headline.Lists

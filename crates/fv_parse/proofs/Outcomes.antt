@@ -11,7 +11,7 @@ use Rattle.fv_lex.specs.Cuts.{HasTokens}
 use Rattle.fv_parse.specs.headline.Unsupported.{first_unsupported}
 use Rattle.fv_parse.proofs.Lexing.{tokens_nest}
 use Rattle.fv_parse.proofs.Endings.{no_tree}
-use Rattle.fv_parse_prefixes.specs.Beginnings.{OnePlace, StopsAtThePlace}
+use Rattle.fv_parse_grammar.specs.Beginnings.{OnePlace, StopsAtThePlace}
 use Rattle.fv_parse.specs.declared.refusal.ParseRefusal.{ParseRefusal}
 use Rattle.fv_parse.specs.declared.refusal.ParseRefusal.TheVariants.{Syntax, Unsupported}
 use Rattle.fv_parse.specs.headline.Trees.{place_from}

@@ -3,8 +3,7 @@
 ghost use Rattle.fv_parse.specs.Outcomes.{IsOneRefusal, IsNotBoth, IsOneOrOther};
 ghost use Rattle.fv_parse.specs.Laws.{SameNumbersSameBytes, NumbersAreOfTheBytes};
 
-use fv_parse_grammar::{reads_what_is_spelled, spelled_once};
-use fv_parse_prefixes::stops_at_the_place;
+use fv_parse_grammar::{reads_what_is_spelled, spelled_once, stops_at_the_place};
 
 /// The tokens of a text are accepted, or refused for one thing, and never both.
 pub fn one_outcome()

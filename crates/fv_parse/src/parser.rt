@@ -17,8 +17,7 @@ use crate::refusal::ParseRefusal;
 use crate::static_errors::refused;
 use crate::unsupported::first_unsupported;
 use fv_lex::Tokens;
-use fv_parse_grammar::{reads_what_is_spelled, spelled_once};
-use fv_parse_prefixes::stops_at_the_place;
+use fv_parse_grammar::{reads_what_is_spelled, spelled_once, stops_at_the_place};
 use fv_parse_tree::{Arena, Fault, TreeId, read};
 use std::alloc::Global;
 

@@ -1,2 +1,14 @@
 pub mod lemmas
 pub mod Separated
+pub mod Plans
+pub mod Pieces
+pub mod OperandBeginnings
+pub mod Turns
+pub mod Phrases
+pub mod Programs
+pub mod Agreement
+pub mod PiecesAgree
+pub mod OperandsAgree
+pub mod PhrasesAgree
+pub mod ProgramsAgree
+pub mod Places

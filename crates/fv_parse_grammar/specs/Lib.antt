@@ -6,6 +6,8 @@ pub mod Descent
 pub mod Laws
 pub mod Examples
 pub mod inner
+pub mod Beginnings
+pub mod PrefixExamples
 -- what it hands on of crates below
 pub use Rattle.fv_lex.specs.declared.token.Symbol
 pub use Rattle.fv_lex.specs.declared.form.Iteration

@@ -1,12 +1,17 @@
-//! The grammar of Faust: which tokens spell which tree, and how they are read from left to right.
+//! The grammar of Faust: which tokens spell which tree, how they are read from left to right, and the exact place of a syntax error:
+//! the tokens before it begin a program, and with the next one none begins.
 #![tactic(auto)]
 
 mod form;
 mod laws;
+mod prefixes;
 mod symbol;
 
 pub use form::{Literal, Operator};
 pub use fv_lex::{Iteration, Panel, Side, Slider, Switch};
 pub use fv_num::Primitive;
 pub use laws::{reads_what_is_spelled, spelled_once};
+pub use prefixes::{
+    beginnings_are_closed, stops_at_the_place, stops_behind_a_beginning, stops_where_none_goes_on,
+};
 pub use symbol::{Commas, Inside, Items, Mark, Operands};

@@ -11,17 +11,17 @@ use Rattle.fv_graph.proofs.lemmas.Counts.{bit_right, bit_same, bit_apart}
 use Rattle.fv_graph.specs.TasksBeside.{times}
 use mathlib.Core.Logic.{dite}
 use native.Mathlib.Decide.{ℕ_discrete}
-use Rattle.fv_ready_rule.specs.Wired.{graph_wires}
-use Rattle.fv_ready_rule.specs.Rule.{places}
-use Rattle.fv_ready_rule.specs.Carried.{IsFree, IsBusy}
+use Rattle.fv_ready.specs.Wired.{graph_wires}
+use Rattle.fv_ready.specs.Rule.{places}
+use Rattle.fv_ready.specs.Carried.{IsFree, IsBusy}
 use Rattle.fv_ready.specs.declared.seat.InHand.{InHand}
-use Rattle.fv_ready_rule.proofs.lemmas.Numbers.{long_numbers}
-use Rattle.fv_ready_rule.proofs.lemmas.Splits.{splits}
+use Rattle.fv_ready.proofs.lemmas.Numbers.{long_numbers}
+use Rattle.fv_ready.proofs.lemmas.Splits.{splits}
 use Rattle.fv_graph.specs.Words.{passing}
-use Rattle.fv_ready_rule.specs.declared.About.{About}
-use Rattle.fv_ready_rule.specs.declared.View.{View}
+use Rattle.fv_ready.specs.declared.view.About.{About}
+use Rattle.fv_ready.specs.declared.view.View.{View}
 use Rattle.fv_ready.specs.declared.seat.WorkerSeat.{WorkerSeat}
-use Rattle.fv_ready_rule.specs.Whole.{first_number, other_numbers, left_part, right_part, IsWhole}
+use Rattle.fv_ready.specs.Whole.{first_number, other_numbers, left_part, right_part, IsWhole}
 use Rattle.fv_ready.specs.Counted.{having}
 use Rattle.fv_ready.specs.Closed.{AreSeats}
 use Rattle.fv_ready.specs.Begun.{IsNewSeat, AreNewSeats, IsFirstSeat, AreFirstSeats, AreRoomy}

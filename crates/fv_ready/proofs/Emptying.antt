@@ -8,11 +8,11 @@ use lib.ListN.{get_elem?}
 use Rattle.atomic_table.specs.Seated.{TableId}
 use Rattle.fv_graph.specs.TasksBeside.{times}
 use Rattle.fv_graph.proofs.lemmas.Counts.{total_append}
-use Rattle.fv_ready_rule.specs.declared.Deed.{Deed}
-use Rattle.fv_ready_rule.specs.declared.About.{About}
-use Rattle.fv_ready_rule.specs.declared.View.{View}
+use Rattle.fv_ready.specs.declared.view.Deed.{Deed}
+use Rattle.fv_ready.specs.declared.view.About.{About}
+use Rattle.fv_ready.specs.declared.view.View.{View}
 use Rattle.fv_ready.specs.declared.seat.WorkerSeat.{WorkerSeat}
-use Rattle.fv_ready_rule.specs.Rule.{done_by}
+use Rattle.fv_ready.specs.Rule.{done_by}
 use Rattle.fv_ready.specs.Counted.{told_by, having}
 use Rattle.fv_ready.specs.Closed.{AreSeats, AreSlots, IsTaken}
 use Rattle.fv_ready.specs.Seats.{IsSeat}

@@ -12,14 +12,14 @@ use Rattle.fv_graph.specs.Graph.{Graph, IsGraph, edges_of, stride, is_exit, read
 use Rattle.fv_graph.specs.Wires.{IsWires}
 use Rattle.fv_graph.proofs.lemmas.Counts.{bit_one}
 use Rattle.fv_graph.proofs.lemmas.Graphs.{is_wires, unique, further, reader_chain}
-use Rattle.fv_ready_rule.specs.Wired.{graph_wires}
-use Rattle.fv_ready_rule.specs.declared.Deed.{Deed}
-use Rattle.fv_ready_rule.specs.declared.About.{About}
-use Rattle.fv_ready_rule.specs.declared.View.{View}
-use Rattle.fv_ready_rule.specs.Rule.{claim_word, wins, finishes, done_by, all}
-use Rattle.fv_ready_rule.specs.Whole.{IsWhole}
-use Rattle.fv_ready_rule.specs.Promised.{Tells}
-use Rattle.fv_ready_rule.proofs.lemmas.Closing.{whole_is, tells, all_finished, finished_all}
+use Rattle.fv_ready.specs.Wired.{graph_wires}
+use Rattle.fv_ready.specs.declared.view.Deed.{Deed}
+use Rattle.fv_ready.specs.declared.view.About.{About}
+use Rattle.fv_ready.specs.declared.view.View.{View}
+use Rattle.fv_ready.specs.Rule.{claim_word, wins, finishes, done_by, all}
+use Rattle.fv_ready.specs.Whole.{IsWhole}
+use Rattle.fv_ready.specs.Promised.{Tells}
+use Rattle.fv_ready.proofs.lemmas.Closing.{whole_is, tells, all_finished, finished_all}
 use Rattle.fv_ready.specs.declared.board.Board.{Board}
 use Rattle.fv_ready.specs.declared.seat.WorkerSeat.{WorkerSeat}
 use Rattle.fv_ready.specs.Boards.{about_of, tasks_of}

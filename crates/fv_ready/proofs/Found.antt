@@ -6,12 +6,12 @@ use mathlib.Core.Logic.{dite}
 use native.Mathlib.Decide.{ℕ_discrete}
 use Rattle.fv_graph.specs.TasksBeside.{times}
 use Rattle.fv_graph.proofs.lemmas.Counts.{bit_apart}
-use Rattle.fv_ready_rule.specs.Rule.{places}
-use Rattle.fv_ready_rule.specs.inner.Spun.{spun}
-use Rattle.fv_ready_rule.specs.Carried.{slot_at, with_slot, but_slot}
-use Rattle.fv_ready_rule.proofs.lemmas.Taking.{places_append}
-use Rattle.fv_ready_rule.proofs.lemmas.Hands.{cut_at, long_places, slot_first, with_first, but_first}
-use Rattle.fv_ready_rule.proofs.lemmas.Spins.{spun_at}
+use Rattle.fv_ready.specs.Rule.{places}
+use Rattle.fv_ready.specs.inner.Spun.{spun}
+use Rattle.fv_ready.specs.Carried.{slot_at, with_slot, but_slot}
+use Rattle.fv_ready.proofs.lemmas.Taking.{places_append}
+use Rattle.fv_ready.proofs.lemmas.Hands.{cut_at, long_places, slot_first, with_first, but_first}
+use Rattle.fv_ready.proofs.lemmas.Spins.{spun_at}
 use Rattle.fv_ready.specs.declared.seat.WorkerSeat.{WorkerSeat}
 use Rattle.fv_ready.specs.Seats.{IsPlaceOf, slots_of}
 

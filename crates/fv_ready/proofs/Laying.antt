@@ -8,15 +8,15 @@ use native.Mathlib.Decide.{dec_le}
 use lib.ListN.{get_elem?}
 use Rattle.atomic_table.specs.Table.{opening}
 use Rattle.fv_graph.specs.Graph.{Graph, edges_of, net_of}
-use Rattle.fv_graph_core.proofs.lemmas.Opens.{length_same, length_numbers}
+use Rattle.fv_graph.proofs.lemmas.Opens.{length_same, length_numbers}
 use Rattle.fv_graph.specs.Net.{Net}
-use Rattle.fv_graph_core.specs.Core.{numbers}
+use Rattle.fv_graph.specs.Core.{numbers}
 use Rattle.fv_graph.specs.Net.{need_count}
-use Rattle.fv_ready_rule.specs.Wired.{graph_wires}
-use Rattle.fv_ready_rule.specs.declared.About.{About}
-use Rattle.fv_ready_rule.specs.Whole.{first_words, first_view, IsWhole}
+use Rattle.fv_ready.specs.Wired.{graph_wires}
+use Rattle.fv_ready.specs.declared.view.About.{About}
+use Rattle.fv_ready.specs.Whole.{first_words, first_view, IsWhole}
 use Rattle.fv_ready.specs.Begun.{first_slots, AreEntries}
-use Rattle.fv_ready_rule.proofs.lemmas.Begins.{Laid, begins}
+use Rattle.fv_ready.proofs.lemmas.Begins.{Laid, begins}
 
 module _ {C : Type 0} where
   entry_at : (es : List C) (ys : List (Option C)) (e : ℕ) → e < length es → (p : C) × (get_elem? (map Some es ++ ys) e ≡ some (Some p)) ×

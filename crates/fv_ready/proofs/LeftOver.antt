@@ -11,13 +11,13 @@ use Rattle.fv_graph.specs.TasksBeside.{task_count}
 use Rattle.fv_graph.specs.Graph.{Graph, IsGraph, net_of}
 use Rattle.fv_graph.proofs.lemmas.Graphs.{is_wires}
 use Rattle.fv_graph.proofs.lemmas.Counts.{bit_same, bit_apart, bit_one, bit_true, bit_false, bit_left, both_true}
-use Rattle.fv_ready_rule.specs.declared.Deed.{Deed}
-use Rattle.fv_ready_rule.specs.declared.Deed.TheVariants.{Stamped, Arrived, Saw, Claimed}
-use Rattle.fv_ready_rule.specs.declared.About.{About}
-use Rattle.fv_ready_rule.specs.Wired.{graph_wires}
-use Rattle.fv_ready_rule.specs.Rule.{wins, loses, claims, arrives, finishes, zeroes, done_by}
-use Rattle.fv_ready_rule.specs.Promised.{Tells}
-use Rattle.fv_ready_rule.specs.Carried.{IsFree, IsBusy}
+use Rattle.fv_ready.specs.declared.view.Deed.{Deed}
+use Rattle.fv_ready.specs.declared.view.Deed.TheVariants.{Stamped, Arrived, Saw, Claimed}
+use Rattle.fv_ready.specs.declared.view.About.{About}
+use Rattle.fv_ready.specs.Wired.{graph_wires}
+use Rattle.fv_ready.specs.Rule.{wins, loses, claims, arrives, finishes, zeroes, done_by}
+use Rattle.fv_ready.specs.Promised.{Tells}
+use Rattle.fv_ready.specs.Carried.{IsFree, IsBusy}
 use Rattle.fv_ready.specs.declared.seat.InHand.{InHand}
 use Rattle.fv_ready.specs.declared.seat.WorkerSeat.{WorkerSeat}
 use Rattle.fv_ready.specs.Seats.{view_of, slots_of, hand_of, IsSeat}
@@ -77,8 +77,8 @@ module _ {C Key : Type 0} (edge_of : C → ℕ) (key_of : C → Key) (id : Table
   arrived_one : (e : ℕ) (s : WorkerSeat C) → IsSeat edge_of key_of id a s → (hand_of s ≡ None) × (slots_of s ≡ [])
       → done_by (arrives e) (view_of s) ≡ bit (n.is_inner e && ltb 0 (done_by (finishes (n.source e)) (view_of s)))
   arrived_one e s h free = let f = idle s h free.0 in let o = f.owed e in
-      let z : times e (Rattle.fv_ready_rule.specs.Rule.places (slots_of s)) ≡ 0 = ap (λ (l : List (ℕ
-      × Option C)). times e (Rattle.fv_ready_rule.specs.Rule.places l)) free.1 in omega arith
+      let z : times e (Rattle.fv_ready.specs.Rule.places (slots_of s)) ≡ 0 = ap (λ (l : List (ℕ
+      × Option C)). times e (Rattle.fv_ready.specs.Rule.places l)) free.1 in omega arith
 
   arrived_all : (e : ℕ) → n.is_inner e ≡ true → (ss : List (WorkerSeat C)) → AreSeats edge_of key_of id a ss
       → All (λ s. (hand_of s ≡ None) × (slots_of s ≡ [])) ss → told_by (finishes (n.source e)) ss ≤ 1

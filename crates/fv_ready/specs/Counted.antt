@@ -3,8 +3,8 @@ use Rattle.std.specs.Prelude.{◌≡◌, ℕ, ◌+◌, ◌<◌, ◌==◌, List, 
 use Rattle.fv_graph.specs.Tasks.{bit, total}
 use Rattle.fv_graph.specs.TasksBeside.{times}
 use Rattle.fv_graph.specs.Net.{Net, need_count}
-use Rattle.fv_ready_rule.specs.declared.Deed.{Deed}
-use Rattle.fv_ready_rule.specs.Rule.{done_by, claims, zeroes}
+use Rattle.fv_ready.specs.declared.view.Deed.{Deed}
+use Rattle.fv_ready.specs.Rule.{done_by, claims, zeroes}
 use Rattle.fv_ready.specs.declared.seat.WorkerSeat.{WorkerSeat}
 use Rattle.fv_ready.specs.Seats.{view_of, slots_of, hand_of}
 

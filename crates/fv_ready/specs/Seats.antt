@@ -3,11 +3,11 @@ use Rattle.std.specs.Prelude.{◌≡◌, ℕ, ◌+◌, ◌<◌, ◌≤◌, List,
 use Rattle.atomic_table.specs.Seated.{TableId}
 use Rattle.fv_graph.specs.TasksBeside.{times, task_count}
 use Rattle.fv_graph.specs.Graph.{inward, outward}
-use Rattle.fv_ready_rule.specs.declared.About.{About}
-use Rattle.fv_ready_rule.specs.declared.View.{View}
-use Rattle.fv_ready_rule.specs.Wired.{graph_wires}
-use Rattle.fv_ready_rule.specs.Rule.{places}
-use Rattle.fv_ready_rule.specs.Carried.{IsFree, IsBusy}
+use Rattle.fv_ready.specs.declared.view.About.{About}
+use Rattle.fv_ready.specs.declared.view.View.{View}
+use Rattle.fv_ready.specs.Wired.{graph_wires}
+use Rattle.fv_ready.specs.Rule.{places}
+use Rattle.fv_ready.specs.Carried.{IsFree, IsBusy}
 use Rattle.fv_ready.specs.declared.seat.InHand.{InHand}
 use Rattle.fv_ready.specs.declared.seat.WorkerSeat.{WorkerSeat}
 

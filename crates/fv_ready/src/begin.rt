@@ -4,7 +4,7 @@ ghost use Rattle.std.specs.Prelude.{◌≡◌, ℕ, ◌+◌, ◌*◌, ◌-◌, �
 ghost use Rattle.std.specs.Prelude.{◌∷◌, ◌++◌, map, replicate, slice_index_or, Some, None, IfOk, IfErr, vec_len, vec_capacity};
 ghost use Rattle.fv_base.specs.declared.limits.TheConstants.{MOST_WORKERS};
 ghost use Rattle.fv_graph.specs.Graph.{net_of};
-ghost use Rattle.fv_ready_rule.specs.Whole.{first_words, first_view};
+ghost use Rattle.fv_ready.specs.Whole.{first_words, first_view};
 ghost use Rattle.fv_ready.specs.Begun.{first_slots, parcels_of, AreRoomy, AreNewSeats, AreEntries};
 ghost use Rattle.fv_ready.specs.Counted.{HaveAll};
 ghost use Rattle.fv_ready.specs.Boards.{about_of, graph_of, AreSeatsOf, AreFirstSeatsOf};
@@ -12,9 +12,9 @@ ghost use Rattle.fv_ready.specs.Boards.{about_of, graph_of, AreSeatsOf, AreFirst
 use crate::board::Board;
 use crate::rule::{ByNumber, Whole};
 use crate::seat::WorkerSeat;
+use crate::{About, Parcel, View};
 use atomic_table::{Refused, Seat, Shared, Table};
 use fv_graph::Tasks;
-use fv_ready_rule::{About, Parcel, View};
 use std::alloc::{AllocError, Global};
 use std::snapshot::Snapshot;
 

@@ -5,9 +5,9 @@ ghost use Rattle.fv_graph.specs.TasksBeside.{task_count};
 ghost use Rattle.fv_graph.specs.Graph.{IsGraph, edges_of};
 
 use crate::rule::Whole;
+use crate::{About, Parcel, View};
 use atomic_table::Table;
 use fv_graph::Tasks;
-use fv_ready_rule::{About, Parcel, View};
 use std::alloc::Global;
 
 /// The board of a block: for each task a count and a claim, for each edge a slot, and the stamps. Workers share it through a

@@ -6,9 +6,9 @@ ghost use mathlib.Core.Option.{some};
 ghost use lib.ListN.{get_elem?};
 ghost use Rattle.fv_graph.specs.TasksBeside.{times, task_count};
 ghost use Rattle.fv_graph.specs.Graph.{IsGraph, edges_of, net_of};
-ghost use Rattle.fv_ready_rule.specs.Rule.{done_by, finishes, wins, loses, claim_word};
-ghost use Rattle.fv_ready_rule.specs.Promised.{Tells};
-ghost use Rattle.fv_ready_rule.specs.declared.Deed.{Deed};
+ghost use Rattle.fv_ready.specs.Rule.{done_by, finishes, wins, loses, claim_word};
+ghost use Rattle.fv_ready.specs.Promised.{Tells};
+ghost use Rattle.fv_ready.specs.declared.view.Deed.{Deed};
 ghost use Rattle.fv_ready.specs.Counted.{told_by, having, HaveAll, NothingLeft};
 ghost use Rattle.fv_ready.specs.Closed.{AreSeats, AreSlots, IsTaken, Ended};
 ghost use Rattle.fv_ready.specs.Boards.{about_of, tasks_of, AreSeatsOf, GainsParcels};
@@ -16,8 +16,8 @@ ghost use Rattle.fv_ready.specs.Boards.{about_of, tasks_of, AreSeatsOf, GainsPar
 use crate::board::Board;
 use crate::rule::{GivesBack, Together, Whole};
 use crate::seat::WorkerSeat;
+use crate::{About, Parcel, View};
 use atomic_table::{Closed, Seat, Shared, Table};
-use fv_ready_rule::{About, Parcel, View};
 use std::alloc::Global;
 
 // One seat for all.

@@ -1,12 +1,12 @@
 // The rule of a board's table, and what each step tells the seat that makes it.
 
 ghost use Rattle.std.specs.Prelude.{◌≡◌, ℕ, []};
-ghost use Rattle.fv_ready_rule.specs.Wired.{graph_wires};
-ghost use Rattle.fv_ready_rule.specs.Rule.{Looks, Claims, Starts, Ends, Gives, together, spent};
-ghost use Rattle.fv_ready_rule.specs.Whole.{IsWhole, first_view, left_part, right_part};
+ghost use Rattle.fv_ready.specs.Wired.{graph_wires};
+ghost use Rattle.fv_ready.specs.Rule.{Looks, Claims, Starts, Ends, Gives, together, spent};
+ghost use Rattle.fv_ready.specs.Whole.{IsWhole, first_view, left_part, right_part};
 
+use crate::{About, Parcel, View};
 use atomic_table::{Join, Play, Split, TableRule};
-use fv_ready_rule::{About, Parcel, View};
 use std::marker::PhantomData;
 
 /// The rule of a board.

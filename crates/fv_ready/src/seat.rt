@@ -2,11 +2,11 @@
 
 ghost use Rattle.std.specs.Prelude.{◌≡◌, ℕ, ◌+◌, ◌<◌, ◌≤◌, length, ◌++◌, ◌==◌, position, vec_len, vec_capacity};
 ghost use Rattle.fv_graph.specs.TasksBeside.{times};
-ghost use Rattle.fv_ready_rule.specs.inner.Spun.{spun};
+ghost use Rattle.fv_ready.specs.inner.Spun.{spun};
 ghost use Rattle.fv_ready.specs.Seats.{IsPlaceOf};
 
+use crate::View;
 use atomic_table::Seat;
-use fv_ready_rule::View;
 
 /// The task that a seat took last and has not finished.
 #[derive(Clone, Copy, PartialEq, Eq, Debug)]

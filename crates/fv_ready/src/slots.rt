@@ -3,14 +3,14 @@
 ghost use Rattle.std.specs.Prelude.{◌≡◌, ℕ, ◌+◌, ◌<◌, List, Option, Some, None, ◌∷◌, ◌++◌, true, IsSomeAnd, IsSome};
 ghost use Rattle.fv_graph.specs.TasksBeside.{times};
 ghost use Rattle.fv_graph.specs.Graph.{inward, outward};
-ghost use Rattle.fv_ready_rule.specs.Rule.{places};
-ghost use Rattle.fv_ready_rule.specs.Carried.{slot_at, with_slot};
+ghost use Rattle.fv_ready.specs.Rule.{places};
+ghost use Rattle.fv_ready.specs.Carried.{slot_at, with_slot};
 ghost use Rattle.fv_ready.specs.Seats.{view_of, slots_of, hand_of};
 ghost use Rattle.fv_ready.specs.Boards.{name_of, about_of, tasks_of, IsSeatOf};
 
+use crate::Parcel;
 use crate::board::Board;
 use crate::seat::{WorkerSeat, place_of, spin};
-use fv_ready_rule::Parcel;
 
 impl<'t, C: Parcel> Board<'t, C> {
     // What the slot of an edge holds. It holds something else then.

@@ -3,16 +3,16 @@
 ghost use Rattle.std.specs.Prelude.{◌≡◌, ℕ, ◌<◌, ◌==◌, not, Some, None, [], true, false, MatchBool, IfSome, IsSomeAnd};
 ghost use Rattle.fv_graph.specs.TasksBeside.{task_count};
 ghost use Rattle.fv_graph.specs.Graph.{net_of};
-ghost use Rattle.fv_ready_rule.specs.Rule.{noted, done_by, sees, stamps, finishes, arrives, zeroes};
-ghost use Rattle.fv_ready_rule.specs.Carried.{but_slot};
-ghost use Rattle.fv_ready_rule.specs.declared.Deed.TheVariants.{Stamped, Arrived, Saw, Claimed};
+ghost use Rattle.fv_ready.specs.Rule.{noted, done_by, sees, stamps, finishes, arrives, zeroes};
+ghost use Rattle.fv_ready.specs.Carried.{but_slot};
+ghost use Rattle.fv_ready.specs.declared.view.Deed.TheVariants.{Stamped, Arrived, Saw, Claimed};
 ghost use Rattle.fv_ready.specs.Seats.{view_of, slots_of, hand_of};
 ghost use Rattle.fv_ready.specs.Boards.{tasks_of, IsSeatOf, AreTaken, IsHanded, slots_left};
 
+use crate::Parcel;
 use crate::board::Board;
 use crate::rule::{Arriving, Claiming, Finishing, Look, Starting};
 use crate::seat::{InHand, WorkerSeat, append, place_of, spin};
-use fv_ready_rule::Parcel;
 
 impl<'t, C: Parcel> Board<'t, C> {
     /// The task's count is 0 at this step.

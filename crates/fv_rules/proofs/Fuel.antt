@@ -13,7 +13,7 @@ use Rattle.fv_diagram.specs.Op.TheVariants as op
 use Rattle.fv_diagram.specs.Primitive.{Primitive as Prim}
 use Rattle.fv_diagram.specs.Primitive.TheVariants as prim
 use Rattle.fv_diagram.specs.headline.Diagram.{Diagram, Primitive, Constant, Table, Bind, Par, Seq, Split, Merge, Rec, size, inputs}
-use Rattle.fv_diagram_head.specs.Numbers.{at_first, number_of}
+use Rattle.fv_diagram_numbers.specs.headline.Numbers.{at_first, number_of}
 use Rattle.fv_diagram.specs.Words.{argument}
 use Rattle.std.proofs.Common.{◌+◌, ◌*◌}
 use Rattle.fv_diagram.specs.declared.control.ControlInfo.{ControlInfo}
@@ -24,7 +24,7 @@ use Rattle.fv_rules.specs.headline.Values.{Name, Value, Flat, Abstraction, Rules
 use Rattle.fv_rules.specs.headline.Values.{Parameters, Cases, Meaning, IsValue, IsDefined, Unknown, lookup, in_order, count_taken}
 use Rattle.fv_rules.specs.headline.Matching.{Bindings, settled, value_number, bound_in, chosen}
 use Rattle.fv_rules.specs.headline.Steps.{State, Outcome, Eval, after, ◌>>=◌, give, refuse, spent, visit, fresh_slots, misfit, put_after, put_as, put, is_alike}
-use Rattle.fv_diagram_head.specs.headline.Heads.{parts, cut, is_head, table_numbers}
+use Rattle.fv_diagram_numbers.specs.headline.Heads.{parts, cut, is_head, table_numbers}
 use Rattle.fv_rules.specs.headline.Steps.{sized, side_by_side, table_size, grow, tabled_by}
 use Rattle.fv_rules.specs.headline.Steps.{tabled, waved, before_table, labelled, entered, control}
 use Rattle.fv_rules.specs.headline.Rules.{literal_value, switch_kind, slider_kind, Evaluator, flat, on_slots, bind_all, turned}

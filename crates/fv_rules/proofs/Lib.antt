@@ -3,3 +3,4 @@ pub mod ValidValues
 pub mod ValidCompositions
 pub mod Valid
 pub mod LiteralNumbers
+pub mod Steps

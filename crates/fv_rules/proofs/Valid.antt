@@ -26,7 +26,7 @@ use Rattle.fv_rules.specs.declared.refusal.TableCause.TheVariants as cause
 use Rattle.fv_parse.specs.headline.Trees.{text_of, label_of}
 use Rattle.fv_rules.specs.headline.Values.{Name, Rule, Value, Flat, Abstraction, Rules, Env, Outermost, Bound, Scope, Taken, Nothing, And, Definition, Plain}
 use Rattle.fv_rules.specs.headline.Values.{Parameters, Cases, Meaning, IsValue, IsDefined, Unknown, lookup, or_else as meant_or, in_order, count_taken}
-use Rattle.fv_diagram_head.specs.Numbers.{number_of}
+use Rattle.fv_diagram_numbers.specs.headline.Numbers.{number_of}
 use Rattle.fv_rules.specs.headline.Matching.{Bindings, number_or, settled, and_then, parts_of, parts_without}
 use Rattle.fv_rules.specs.headline.Matching.{value_parts, value_number, matched, all_matched, bound_in, or_next, chosen}
 use Rattle.fv_rules.specs.headline.Steps.{State, Outcome, Eval, after, ◌>>=◌, no_number, no_rule, no_diagram, spent}

@@ -12,7 +12,7 @@ use Rattle.fv_diagram.specs.Op.TheVariants as op
 use Rattle.fv_diagram.specs.Primitive.{Primitive as Prim}
 use Rattle.fv_diagram.specs.Primitive.TheVariants as prim
 use Rattle.fv_diagram.specs.headline.Diagram.{Diagram, Primitive, Constant, Slot, Table, Bind, Par, Seq, Split, Merge, Rec, size, inputs, outputs, table_inputs}
-use Rattle.fv_diagram_head.specs.Numbers.{at_first}
+use Rattle.fv_diagram_numbers.specs.headline.Numbers.{at_first}
 use Rattle.fv_diagram.specs.Words.{argument}
 use Rattle.std.specs.List.{list_all}
 use Rattle.std.proofs.Common.{◌+◌, ◌*◌, length, ◌∙◌, negsuc}
@@ -23,8 +23,8 @@ use Rattle.fv_rules.specs.declared.refusal.EvalRefusal.TheVariants.{SizeBudget, 
 use Rattle.fv_arity.specs.declared.refusal.ArityKind.TheVariants as kind
 use Rattle.fv_rules.specs.headline.Values.{Flat}
 use Rattle.fv_rules.specs.headline.Steps.{State, Outcome, Eval, after, give, refuse, is_multiple, unless, or_else, misfit, sized, put_after, put_as, put}
-use Rattle.fv_diagram_head.specs.headline.Heads.{parts, cut, is_fixed, is_head, table_numbers}
-use Rattle.fv_diagram_head.proofs.lemmas.Outputs.{cut_outputs, parts_outputs}
+use Rattle.fv_diagram_numbers.specs.headline.Heads.{parts, cut, is_fixed, is_head, table_numbers}
+use Rattle.fv_diagram_numbers.proofs.lemmas.Outputs.{cut_outputs, parts_outputs}
 use Rattle.fv_rules.specs.headline.Steps.{side_by_side, table_size, grow, tabled_by, tabled, waved}
 use Rattle.fv_rules.specs.declared.refusal.EvalRefusal.TheVariants.{TableForm, TableBudget}
 use Rattle.fv_rules.specs.declared.refusal.TableCause.TheVariants as cause

@@ -4,8 +4,9 @@ pub mod Rules
 pub mod Runnable
 pub mod Puts
 pub mod Examples
+pub mod Machine
 -- what it hands on of crates below
-pub use Rattle.fv_diagram_head.specs.Numbers
+pub use Rattle.fv_diagram_numbers.specs.headline.Numbers
 pub use Rattle.fv_parse.specs.headline.Trees
 pub use Rattle.fv_parse_grammar.specs.Iteration
 pub use Rattle.fv_parse_grammar.specs.declared.form.Operator

@@ -14,12 +14,12 @@ use Rattle.fv_signal.specs.declared.signal.Signal.TheVariants.{Input, Const, Con
 use Rattle.fv_signal.specs.headline.Value.{Graph, definition, OperandsBelow, IsOrdered, IsGraph}
 use Rattle.fv_share.specs.Drafts.{Draft, put}
 use Rattle.fv_share.proofs.lemmas.Puts.{put_stands}
-use Rattle.fv_simplify_rules.specs.Choices.{choice}
-use Rattle.fv_simplify_rules.specs.Nodes.{node, number_at, known, numbers}
-use Rattle.fv_simplify_rules.specs.Rebuilt.{back_by, base, IsPointImage, IsDelayImage, IsImage, IsMarked}
+use Rattle.fv_simplify.specs.Choices.{choice}
+use Rattle.fv_simplify.specs.Nodes.{node, number_at, known, numbers}
+use Rattle.fv_simplify.specs.Rebuilt.{back_by, base, IsPointImage, IsDelayImage, IsImage, IsMarked}
 use Rattle.fv_simplify.specs.Passing.{HasWidth, so_far, is_zero, put_late, late, delayed_by, chosen, folded, image_of}
 use Rattle.fv_simplify.specs.Runs.{Pass, step, steps}
-use Rattle.fv_simplify_rules.proofs.lemmas.Origins.{Taken, Itself, Over, base_cases}
+use Rattle.fv_simplify.proofs.lemmas.Origins.{Taken, Itself, Over, base_cases}
 use Rattle.fv_simplify.proofs.Images.{image_is, put_at}
 
 map_alike : (k : ℕ) (p q : ℕ → ℕ) (args : List ℕ) → All (λ a. a < k) args → ((a : ℕ) → a < k → p a ≡ q a) → map p args ≡ map q args

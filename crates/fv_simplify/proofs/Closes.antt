@@ -14,7 +14,7 @@ use Rattle.fv_signal.specs.headline.Value.{Graph, members, definition, IsGraph}
 use Rattle.fv_share.specs.Drafts.{AreClosed, AreShut, BacksWithin, CanClose, graph_of, lists_in, with_groups, with_tables, with_all_members}
 use Rattle.fv_share.proofs.lemmas.Groups.{groups_stay}
 use Rattle.fv_share.proofs.lemmas.Puts.{put_stands}
-use Rattle.fv_simplify_rules.specs.Rebuilt.{IsMarked, IsRebuilt}
+use Rattle.fv_simplify.specs.Rebuilt.{IsMarked, IsRebuilt}
 use Rattle.fv_simplify.specs.Runs.{Pass, step, steps, definitions, nothing, begun, passed, rebuilt, AreGood}
 use Rattle.fv_simplify.proofs.Along.{steps_grow, steps_long}
 use Rattle.fv_simplify.proofs.Rest.{are_marked, are_pending, groups_long, steps_backs, begun_backs}

@@ -14,13 +14,13 @@ use Rattle.fv_signal.specs.declared.signal.Signal.TheVariants.{Input, Const, Con
 use Rattle.fv_signal.specs.headline.Value.{Graph, definition, OperandsBelow, IsOrdered}
 use Rattle.fv_share.specs.Drafts.{Draft, put}
 use Rattle.fv_share.proofs.lemmas.Puts.{put_stands}
-use Rattle.fv_simplify_rules.specs.Choices.{choice}
-use Rattle.fv_simplify_rules.specs.Nodes.{node, number, number_at, known, before, numbers}
-use Rattle.fv_simplify_rules.specs.Rebuilt.{back_by, taken, base_of, base, IsPointImage, AsNumber, AsOperand, AsItself, IsDelayImage, AtOnce, LateNothing}
-use Rattle.fv_simplify_rules.specs.Rebuilt.{Late, Nothing, Varying, IsImage}
+use Rattle.fv_simplify.specs.Choices.{choice}
+use Rattle.fv_simplify.specs.Nodes.{node, number, number_at, known, before, numbers}
+use Rattle.fv_simplify.specs.Rebuilt.{back_by, taken, base_of, base, IsPointImage, AsNumber, AsOperand, AsItself, IsDelayImage, AtOnce, LateNothing}
+use Rattle.fv_simplify.specs.Rebuilt.{Late, Nothing, Varying, IsImage}
 use Rattle.fv_simplify.specs.Passing.{HasWidth, so_far, is_zero, put_late, late, delayed_by, chosen, folded, image_of}
-use Rattle.fv_simplify_rules.proofs.lemmas.Origins.{number_node, Taken, Itself, Over, base_cases}
-use Rattle.fv_simplify_rules.proofs.lemmas.Chains.{choice_same}
+use Rattle.fv_simplify.proofs.lemmas.Origins.{number_node, Taken, Itself, Over, base_cases}
+use Rattle.fv_simplify.proofs.lemmas.Chains.{choice_same}
 
 module _ (f : Graph) (ordered : IsOrdered f) where
   -- f has the draft's signals in front

@@ -1,3 +1,8 @@
+pub mod lemmas
+pub mod Values
+pub mod Stays
+pub mod Irreducible
+mod Parts
 mod Through
 pub mod Put
 pub mod Numbers

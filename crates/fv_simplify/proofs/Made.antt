@@ -11,9 +11,9 @@ use Rattle.fv_signal.specs.declared.signal.Signal.TheVariants.{Input, Const, Con
 use Rattle.fv_signal.specs.headline.Value.{Graph, definition}
 use Rattle.fv_share.specs.Drafts.{Draft, put, IsPut}
 use Rattle.fv_share.proofs.lemmas.Puts.{put_stands}
-use Rattle.fv_simplify_rules.specs.Choices.{choice}
-use Rattle.fv_simplify_rules.specs.Nodes.{node, number_at, known, numbers}
-use Rattle.fv_simplify_rules.specs.Rebuilt.{back_by, base, IsMarked}
+use Rattle.fv_simplify.specs.Choices.{choice}
+use Rattle.fv_simplify.specs.Nodes.{node, number_at, known, numbers}
+use Rattle.fv_simplify.specs.Rebuilt.{back_by, base, IsMarked}
 use Rattle.fv_simplify.specs.Passing.{so_far, is_zero, put_late, late, delayed_by, chosen, folded, image_of}
 use Rattle.fv_simplify.specs.Runs.{Pass, step, steps}
 use Rattle.fv_simplify.proofs.Along.{Steps, stepped}

@@ -8,8 +8,8 @@ use Rattle.fv_num.specs.headline.Words.{apply_of, inputs_of}
 use Rattle.fv_signal.specs.declared.signal.Signal.TheVariants.{Const}
 use Rattle.fv_signal.specs.headline.Value.{Graph}
 use Rattle.fv_share.specs.Drafts.{Draft, put}
-use Rattle.fv_simplify_rules.specs.Choices.{left_by, or_else, choice, pair}
-use Rattle.fv_simplify_rules.specs.Nodes.{number_at, known, before, numbers}
+use Rattle.fv_simplify.specs.Choices.{left_by, or_else, choice, pair}
+use Rattle.fv_simplify.specs.Nodes.{number_at, known, before, numbers}
 use Rattle.fv_simplify.specs.Passing.{so_far, chosen, folded}
 
 before_none : (k : Option ℤ) → before k None ≡ None

@@ -12,9 +12,9 @@ use Rattle.fv_signal.specs.headline.Value.{Graph}
 use Rattle.fv_share.specs.Drafts.{Draft, IsDraft, IsPending, BacksWithin, put, with_groups, with_tables}
 use Rattle.fv_share.proofs.lemmas.Puts.{backs_stay_within}
 use Rattle.fv_share.proofs.lemmas.Groups.{groups_stay}
-use Rattle.fv_simplify_rules.specs.Choices.{choice}
-use Rattle.fv_simplify_rules.specs.Nodes.{number_at, known, numbers}
-use Rattle.fv_simplify_rules.specs.Rebuilt.{back_by, base, IsMarked}
+use Rattle.fv_simplify.specs.Choices.{choice}
+use Rattle.fv_simplify.specs.Nodes.{number_at, known, numbers}
+use Rattle.fv_simplify.specs.Rebuilt.{back_by, base, IsMarked}
 use Rattle.fv_simplify.specs.Passing.{so_far, is_zero, put_late, late, delayed_by, chosen, folded, image_of}
 use Rattle.fv_simplify.specs.Runs.{Pass, step, steps, nothing, begun}
 use Rattle.fv_simplify.proofs.Along.{Steps, stepped}

@@ -9,11 +9,11 @@ use Rattle.std.proofs.lemmas.List.{get_or-set_same, get_or-set_other, get_or-rep
 use Rattle.fv_signal.specs.declared.signal.Signal.{Signal}
 use Rattle.fv_signal.specs.declared.signal.Signal.TheVariants.{Input, Const, Control, Point, Delay, Back, Member, Read, Write}
 use Rattle.fv_signal.specs.headline.Value.{Graph}
-use Rattle.fv_simplify_rules.specs.Nodes.{node, StandsAt, number_at}
-use Rattle.fv_simplify_rules.specs.Rebuilt.{IsMarked, IsRoom}
+use Rattle.fv_simplify.specs.Nodes.{node, StandsAt, number_at}
+use Rattle.fv_simplify.specs.Rebuilt.{IsMarked, IsRoom}
 use Rattle.fv_simplify.specs.Passing.{room_in}
 use Rattle.fv_simplify.specs.inner.Rooms.{room_with, rooms_after}
-use Rattle.fv_simplify_rules.proofs.lemmas.Origins.{number_node}
+use Rattle.fv_simplify.proofs.lemmas.Origins.{number_node}
 
 -- a marked signal before place n
 abbrev pub Before : List Bool → (n s : ℕ) → Type 0

@@ -2,14 +2,14 @@
 use Rattle.std.proofs.Common.{◌≡◌, ℕ, length, ap, ◌∙◌, arith}
 use Rattle.std.proofs.lemmas.List.{length-map}
 use Rattle.fv_signal.specs.headline.Value.{Graph}
-use Rattle.fv_simplify_rules.specs.Reducible.{IsSimpler}
-use Rattle.fv_simplify_rules.specs.Rebuilt.{IsMarked, RoomIsSafe}
-use Rattle.fv_simplify_rules.specs.Simpler.{no_room}
-use Rattle.fv_simplify_rules.proofs.Values.{same_outputs}
-use Rattle.fv_simplify_rules.proofs.Stays.{inputs_kept, controls_kept, within_kept}
-use Rattle.fv_simplify_rules.proofs.lemmas.Reaches.{short_kept, reach_kept}
-use Rattle.fv_simplify_rules.proofs.lemmas.Chains.{folded, no_more}
-use Rattle.fv_fold.specs.Kept.{KeepsAll}
+use Rattle.fv_simplify.specs.Reducible.{IsSimpler}
+use Rattle.fv_simplify.specs.Rebuilt.{IsMarked, RoomIsSafe}
+use Rattle.fv_simplify.specs.Simpler.{no_room}
+use Rattle.fv_simplify.proofs.Values.{same_outputs}
+use Rattle.fv_simplify.proofs.Stays.{inputs_kept, controls_kept, within_kept}
+use Rattle.fv_simplify.proofs.lemmas.Reaches.{short_kept, reach_kept}
+use Rattle.fv_simplify.proofs.lemmas.Chains.{folded, no_more}
+use Rattle.fv_simplify.specs.Kept.{KeepsAll}
 use Rattle.fv_simplify.specs.inner.Once.{Folds, Joins}
 
 safe_none : (g : Graph) (P : ℕ → Type 0) → RoomIsSafe g P no_room

@@ -12,8 +12,8 @@ use Rattle.fv_base.proofs.lemmas.Lists.{length_table, get_or_table}
 use Rattle.fv_share.specs.Drafts.{Draft, with_groups, with_tables, with_members, with_all_members, AreShut}
 use Rattle.fv_share.proofs.lemmas.Groups.{groups_stay}
 use Rattle.fv_share.proofs.lemmas.Puts.{put_stands}
-use Rattle.fv_simplify_rules.specs.Nodes.{node}
-use Rattle.fv_simplify_rules.specs.Rebuilt.{IsImage, IsMarked, IsRebuilt}
+use Rattle.fv_simplify.specs.Nodes.{node}
+use Rattle.fv_simplify.specs.Rebuilt.{IsImage, IsMarked, IsRebuilt}
 use Rattle.fv_simplify.specs.Passing.{so_far}
 use Rattle.fv_simplify.specs.Runs.{Pass, definitions, nothing, begun, passed, rebuilt, AreGood}
 use Rattle.fv_simplify.proofs.Along.{steps_long, along, there_all}

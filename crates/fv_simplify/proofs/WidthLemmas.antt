@@ -3,8 +3,8 @@ use Rattle.std.proofs.Common.{◌≡◌, ℕ, ◌+◌, ◌<◌, ◌≤◌, List,
 use Rattle.std.proofs.lemmas.Bool.{cases_lt}
 use Rattle.fv_signal.specs.declared.signal.Signal.TheVariants.{Back}
 use Rattle.fv_signal.specs.headline.Value.{Graph, members}
-use Rattle.fv_simplify_rules.specs.Nodes.{node}
-use Rattle.fv_simplify_rules.specs.Rebuilt.{IsMarked}
+use Rattle.fv_simplify.specs.Nodes.{node}
+use Rattle.fv_simplify.specs.Rebuilt.{IsMarked}
 use Rattle.fv_simplify.specs.Runs.{AreNamed}
 
 pub named_more : (g : Graph) (marks : List Bool) (old new : List ℕ) (n : ℕ) → AreNamed g marks old n → ((k : ℕ) → get_or old k 0 ≤ get_or new k 0) →

@@ -4,7 +4,7 @@ use Rattle.std.specs.Int.{int_wrap}
 use Rattle.fv_num.specs.declared.op.Op.TheVariants.{Add, Mul, Div}
 use Rattle.fv_signal.specs.declared.signal.Signal.TheVariants.{Input, Const, Point, Delay, Back, Member}
 use Rattle.fv_signal.specs.headline.Value.{Graph}
-use Rattle.fv_simplify_rules.specs.Reducible.{reach}
+use Rattle.fv_simplify.specs.Reducible.{reach}
 use Rattle.fv_simplify.specs.Runs.{rebuilt}
 
 abbrev all : List Bool

@@ -1,14 +1,20 @@
+pub mod headline
+pub mod Nodes
+pub mod Choices
+pub mod Reducible
+pub mod Rebuilt
+pub mod Simpler
+pub mod Folding
+pub mod Folded
+pub mod Kept
+pub mod inner
 pub mod Passing
 pub mod Runs
-pub mod inner
 pub mod Simplified
 pub mod Examples
 -- what its public clauses cite of crates below
-pub use Rattle.fv_share.specs.Drafts
 pub use Rattle.fv_signal.specs.headline.Value
 pub use Rattle.fv_signal.specs.Value as ValueBeside
-pub use Rattle.fv_simplify_rules.specs.Choices
-pub use Rattle.fv_simplify_rules.specs.Rebuilt
-pub use Rattle.fv_simplify_rules.specs.headline.Reducible
-pub use Rattle.fv_simplify_rules.specs.Reducible as ReducibleBeside
-pub use Rattle.fv_simplify_rules.specs.Nodes
+pub use Rattle.fv_num.specs.headline.Frames
+pub use Rattle.fv_analysis.specs.headline.Stands
+pub use Rattle.fv_share.specs.Drafts

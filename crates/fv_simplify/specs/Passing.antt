@@ -8,9 +8,9 @@ use Rattle.fv_signal.specs.declared.signal.Signal.{Signal}
 use Rattle.fv_signal.specs.declared.signal.Signal.TheVariants.{Input, Const, Control, Point, Delay, Back, Member, Read, Write}
 use Rattle.fv_signal.specs.headline.Value.{Graph, definition, IsOrdered, OperandsBelow}
 use Rattle.fv_share.specs.Drafts.{Draft, put, graph_of}
-use Rattle.fv_simplify_rules.specs.Choices.{choice}
-use Rattle.fv_simplify_rules.specs.Nodes.{number_at, known, numbers}
-use Rattle.fv_simplify_rules.specs.Rebuilt.{back_by, base, IsImage}
+use Rattle.fv_simplify.specs.Choices.{choice}
+use Rattle.fv_simplify.specs.Nodes.{number_at, known, numbers}
+use Rattle.fv_simplify.specs.Rebuilt.{back_by, base, IsImage}
 
 -- the draft's signals as a graph
 abbrev pub so_far : Draft → Graph

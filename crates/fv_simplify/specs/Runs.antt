@@ -6,7 +6,7 @@ use Rattle.fv_signal.specs.declared.signal.Signal.TheVariants.{Const, Back}
 use Rattle.fv_signal.specs.headline.Value.{Graph, members, IsGraph}
 use Rattle.fv_signal.specs.Value.{AreClosedSet}
 use Rattle.fv_share.specs.Drafts.{Draft, put, with_groups, with_tables, with_all_members, graph_of}
-use Rattle.fv_simplify_rules.specs.Rebuilt.{IsMarked, IsRebuilt}
+use Rattle.fv_simplify.specs.Rebuilt.{IsMarked, IsRebuilt}
 use Rattle.fv_simplify.specs.Passing.{image_of, HasWidth}
 
 -- the draft, and the images of the signals so far

@@ -3,8 +3,8 @@
 ghost use Rattle.std.specs.Prelude.{◌≡◌, ℕ, ◌+◌, ◌<◌, length, map, All, IfOk, slice_index_or};
 ghost use Rattle.fv_signal.specs.headline.Value.{definition};
 ghost use Rattle.fv_share.specs.Drafts.{IsPending};
-ghost use Rattle.fv_simplify_rules.specs.Nodes.{node};
-ghost use Rattle.fv_simplify_rules.specs.headline.Reducible.{AreShort, limit};
+ghost use Rattle.fv_simplify.specs.Nodes.{node};
+ghost use Rattle.fv_simplify.specs.headline.Reducible.{AreShort, limit};
 ghost use Rattle.fv_simplify.specs.Passing.{room_in, operation as operation_of, image_of};
 
 use crate::late::{delayed, put_number, put_signal};

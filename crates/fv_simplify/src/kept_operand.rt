@@ -3,8 +3,8 @@
 ghost use Rattle.std.specs.Prelude.{◌≡◌, ◌==◌, pos, if◌then◌else◌};
 ghost use Rattle.std.specs.Ordering.{int_eq};
 ghost use Rattle.fv_num.specs.headline.Words.{amount};
-ghost use Rattle.fv_simplify_rules.specs.Choices.{is_neutral as is_neutral_of, is_absorbing as is_absorbing_of, left_by as left_by_of};
-ghost use Rattle.fv_simplify_rules.specs.Choices.{selected2 as selected2_of, selected3 as selected3_of, or_else as or_else_of, choice as choice_of, pair};
+ghost use Rattle.fv_simplify.specs.Choices.{is_neutral as is_neutral_of, is_absorbing as is_absorbing_of, left_by as left_by_of};
+ghost use Rattle.fv_simplify.specs.Choices.{selected2 as selected2_of, selected3 as selected3_of, or_else as or_else_of, choice as choice_of, pair};
 
 use fv_num::Op;
 

@@ -1,6 +1,11 @@
-// The pass over a graph of signals that makes it simpler.
+//! Simpler graphs of signals: what one is, why a graph that is rebuilt twice is one, and the pass that rebuilds. Between the two, equal
+//! signals are read as one, also where they feed back.
 #![tactic(auto)]
 
+mod check;
+mod finder;
+mod fold_laws;
+mod folded;
 mod image;
 mod kept_operand;
 mod late;
@@ -8,13 +13,27 @@ mod laws;
 mod marks;
 mod operation;
 mod pass;
+mod read;
+mod redirected;
 mod rooms;
+mod rule_laws;
 mod short;
 mod simpler;
 mod widths;
 
+pub use check::folds;
+pub use finder::find;
+pub use fold_laws::{
+    folded_values, redirected_is_graph, redirected_keeps_all, redirected_keeps_values,
+};
+pub use folded::fold;
 pub use kept_operand::choice;
 pub use late::delayed;
 pub use laws::{a_pass_rebuilds, images_are_put};
+pub use redirected::redirect;
+pub use rule_laws::{
+    choices_keep_values, no_delay_is_taken_over, reads_no_further, rebuilt_is_folded,
+    the_rest_is_kept, twice_is_simpler, values_are_kept,
+};
 pub use short::are_short;
 pub use simpler::simplify;

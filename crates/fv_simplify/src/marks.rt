@@ -3,8 +3,8 @@
 ghost use Rattle.std.specs.Prelude.{◌≡◌, ◌<◌, length, vec_len, All, IfOk, IsTrue};
 ghost use Rattle.fv_signal.specs.headline.Value.{IsGraph, NamesWithin};
 ghost use Rattle.fv_signal.specs.Value.{ReadsOnly, AreClosedSet};
-ghost use Rattle.fv_simplify_rules.specs.Nodes.{node};
-ghost use Rattle.fv_simplify_rules.specs.Rebuilt.{IsMarked};
+ghost use Rattle.fv_simplify.specs.Nodes.{node};
+ghost use Rattle.fv_simplify.specs.Rebuilt.{IsMarked};
 
 use fv_signal::{Graph, Signal, SignalId};
 use std::alloc::{AllocError, Global};

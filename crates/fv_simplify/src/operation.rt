@@ -3,8 +3,8 @@
 ghost use Rattle.std.specs.Prelude.{◌≡◌, ◌<◌, length, take, All, IfOk};
 ghost use Rattle.std.specs.Option.{option_map};
 ghost use Rattle.fv_num.specs.headline.Words.{apply_of, inputs_of};
-ghost use Rattle.fv_simplify_rules.specs.Choices.{choice as choice_of};
-ghost use Rattle.fv_simplify_rules.specs.Nodes.{known as known_of, numbers as numbers_of};
+ghost use Rattle.fv_simplify.specs.Choices.{choice as choice_of};
+ghost use Rattle.fv_simplify.specs.Nodes.{known as known_of, numbers as numbers_of};
 ghost use Rattle.fv_simplify.specs.Passing.{so_far, chosen as chosen_of, operation as operation_of};
 
 use crate::kept_operand::choice;

@@ -3,9 +3,9 @@
 ghost use Rattle.std.specs.Prelude.{◌≡◌, ℕ, ◌+◌, ◌<◌, [], ◌∷◌, ◌++◌, length, take, map, All, IfOk, OnOk, slice_index_or, List, Bool, false};
 ghost use Rattle.fv_signal.specs.headline.Value.{members, IsGraph};
 ghost use Rattle.fv_share.specs.Drafts.{AreClosed, IsPending, graph_of, lists_in};
-ghost use Rattle.fv_simplify_rules.specs.Nodes.{node};
-ghost use Rattle.fv_simplify_rules.specs.headline.Reducible.{AreShort};
-ghost use Rattle.fv_simplify_rules.specs.Rebuilt.{IsMarked, IsRebuilt};
+ghost use Rattle.fv_simplify.specs.Nodes.{node};
+ghost use Rattle.fv_simplify.specs.headline.Reducible.{AreShort};
+ghost use Rattle.fv_simplify.specs.Rebuilt.{IsMarked, IsRebuilt};
 ghost use Rattle.fv_simplify.specs.Passing.{room_in};
 ghost use Rattle.fv_simplify.specs.Runs.{step, begun as begun_of, passed as passed_of, definitions as definitions_of, AreGood};
 

@@ -2,8 +2,8 @@
 
 ghost use Rattle.std.specs.Prelude.{◌≡◌, ◌<◌, length, IfOk};
 ghost use Rattle.fv_signal.specs.headline.Value.{IsGraph};
-ghost use Rattle.fv_simplify_rules.specs.Nodes.{node, number_at};
-ghost use Rattle.fv_simplify_rules.specs.Rebuilt.{IsMarked, IsRoom};
+ghost use Rattle.fv_simplify.specs.Nodes.{node, number_at};
+ghost use Rattle.fv_simplify.specs.Rebuilt.{IsMarked, IsRoom};
 ghost use Rattle.fv_simplify.specs.Passing.{room_in};
 ghost use Rattle.fv_simplify.specs.inner.Rooms.{room_with as room_with_of, rooms_after};
 

@@ -2,7 +2,7 @@
 
 ghost use Rattle.std.specs.Prelude.{◌≡◌, ◌↔◌, ◌<◌, ◌≤◌, ℕ, false, IsTrue};
 ghost use Rattle.fv_signal.specs.declared.signal.Signal.TheVariants.{Delay as delay_node};
-ghost use Rattle.fv_simplify_rules.specs.headline.Reducible.{AreShort, limit};
+ghost use Rattle.fv_simplify.specs.headline.Reducible.{AreShort, limit};
 
 use fv_base::limits::DELAY_BUDGET;
 use fv_signal::{Graph, Signal, SignalId};

@@ -2,17 +2,17 @@
 
 ghost use Rattle.std.specs.Prelude.{List, ℕ, IfOk};
 ghost use Rattle.fv_num.specs.headline.Frames.{Frame, Stream};
-ghost use Rattle.fv_simplify_rules.specs.headline.Reducible.{AreShort};
-ghost use Rattle.fv_simplify_rules.specs.Reducible.{StayWithin, IsSimpler};
-ghost use Rattle.fv_fold.specs.Kept.{KeepsAll};
+ghost use Rattle.fv_simplify.specs.headline.Reducible.{AreShort};
+ghost use Rattle.fv_simplify.specs.Reducible.{StayWithin, IsSimpler};
+ghost use Rattle.fv_simplify.specs.Kept.{KeepsAll};
 ghost use Rattle.fv_simplify.specs.Simplified.{AreSmallIn};
 ghost use Rattle.fv_simplify.specs.inner.Once.{Folds, Joins};
 
+use crate::fold;
 use crate::marks::marks;
 use crate::pass::rebuild;
 use crate::rooms::rooms;
 use crate::widths::widths;
-use fv_fold::fold;
 use fv_num::Span;
 use fv_signal::Graph;
 use std::alloc::{AllocError, Global};

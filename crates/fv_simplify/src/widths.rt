@@ -3,7 +3,7 @@
 ghost use Rattle.std.specs.Prelude.{◌≡◌, ◌≤◌, ℕ, ◌<◌, ◌^◌, length, vec_len, IfOk, slice_index_or};
 ghost use Rattle.fv_signal.specs.declared.signal.Signal.TheVariants.{Back as back_node};
 ghost use Rattle.fv_signal.specs.headline.Value.{NamesWithin};
-ghost use Rattle.fv_simplify_rules.specs.Nodes.{node};
+ghost use Rattle.fv_simplify.specs.Nodes.{node};
 ghost use Rattle.fv_simplify.specs.Passing.{HasWidth};
 ghost use Rattle.fv_simplify.specs.Runs.{AreNamed};
 

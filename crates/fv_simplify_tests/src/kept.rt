@@ -8,7 +8,7 @@ use fv_simplify::{are_short, simplify};
 use std::alloc::{AllocError, Global};
 use std::process::Abort;
 use std::test::Fail;
-use test_values::{Sound, given};
+use test_graphs::{Sound, given};
 
 // How many frames are heard.
 const FRAMES: usize = 24;

@@ -1,4 +1,4 @@
-// Tests of simpler graphs.
+//! Tests of simpler graphs, and of graphs side by side.
 #![tactic(auto)]
 
 #[cfg(test)]
@@ -10,6 +10,10 @@ mod folds;
 #[cfg(test)]
 mod graphs;
 #[cfg(test)]
+mod jobs;
+#[cfg(test)]
+mod joined_graphs;
+#[cfg(test)]
 mod kept;
 #[cfg(test)]
 mod long;
@@ -19,3 +23,9 @@ mod outputs;
 mod random;
 #[cfg(test)]
 mod reducible;
+#[cfg(test)]
+mod rounds;
+#[cfg(test)]
+mod side_by_side;
+#[cfg(test)]
+mod texts;

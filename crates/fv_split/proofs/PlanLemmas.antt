@@ -13,7 +13,7 @@ use Rattle.fv_outside.specs.declared.tasks.Reads.{Reads}
 use Rattle.fv_outside.specs.headline.Tasks.{bit, total, reads_loop}
 use Rattle.fv_signal.specs.declared.signal.Signal.TheVariants as signal
 use Rattle.fv_signal.specs.headline.Value.{Graph, value, IsGraph, NamesWithin}
-use Rattle.fv_split_components.specs.headline.Reach.{at}
+use Rattle.fv_components.specs.headline.Reach.{at}
 use Rattle.fv_loopcode.specs.declared.step.Step.{Step}
 use Rattle.fv_loopcode.specs.declared.step.Step.TheVariants as step
 use Rattle.fv_loopcode.specs.declared.counts.Counts.{Counts}

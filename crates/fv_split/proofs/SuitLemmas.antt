@@ -13,8 +13,8 @@ use Rattle.fv_signal.specs.headline.Value.{Graph, definition, value, signal_at, 
 use Rattle.fv_signal.specs.headline.Rates.{rate_in, rate_of}
 use Rattle.fv_signal.proofs.lemmas.Rates.{rate_is}
 use Rattle.fv_signal.proofs.lemmas.Values.{values_are_given}
-use Rattle.fv_split_components.specs.headline.Reach.{at, Reaches}
-use Rattle.fv_split_components.proofs.lemmas.Walks.{reaches_self, reaches_trans}
+use Rattle.fv_components.specs.headline.Reach.{at, Reaches}
+use Rattle.fv_components.proofs.lemmas.Walks.{reaches_self, reaches_trans}
 use Rattle.fv_loopcode.specs.declared.step.Step.{Step}
 use Rattle.fv_loopcode.specs.headline.Obeys.{Roles, Place, OfLane, OfCells}
 use Rattle.fv_analysis.specs.headline.Stands.{node, stand, stands_of, StandsAt}

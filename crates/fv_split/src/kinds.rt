@@ -1,7 +1,7 @@
 // What each signal is to its own code, and to code that reads it.
 
 ghost use Rattle.std.specs.Prelude.{◌≡◌, ◌<◌, ℕ, length, map, All, IfOk, unwrap_or};
-ghost use Rattle.fv_split_components.specs.headline.Reach.{at};
+ghost use Rattle.fv_components.specs.headline.Reach.{at};
 ghost use Rattle.fv_signal.specs.headline.Value.{NamesWithin};
 ghost use Rattle.fv_signal.specs.headline.Rates.{rates as rates_of};
 ghost use Rattle.fv_split_plan.specs.Separated.{lane_at};

@@ -1,7 +1,7 @@
 // Which loops read which others.
 
 ghost use Rattle.std.specs.Prelude.{◌≡◌, ◌<◌, ◌≤◌, ℕ, length, All, IfOk, OnOk, IsTrue};
-ghost use Rattle.fv_split_components.specs.headline.Reach.{at};
+ghost use Rattle.fv_components.specs.headline.Reach.{at};
 ghost use Rattle.fv_split_code.specs.Emitted.{code_in};
 ghost use Rattle.fv_split.specs.inner.ToldReads.{was_told as was_told_by, with_read, LoadsAmong, reads_of_step, reads_of_steps, reads_of_loops, view_of};
 

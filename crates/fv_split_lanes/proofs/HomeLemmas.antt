@@ -3,8 +3,8 @@ use Rattle.std.proofs.Common.{◌≡◌, ◌≢◌, ◌⊎◌, inl, inr, ℕ, ze
 use Rattle.std.proofs.Common.{false, if◌then◌else◌}
 use Rattle.std.proofs.lemmas.List.{length-set, get_or-set_same, get_or-set_other, get_or_default}
 use Rattle.std.proofs.lemmas.Bool.{cases_eq}
-use Rattle.fv_split_components.specs.headline.Reach.{Links, at, Leads, Reaches}
-use Rattle.fv_split_components.proofs.lemmas.Walks.{reaches_self, reaches_trans, reaches_step}
+use Rattle.fv_components.specs.headline.Reach.{Links, at, Leads, Reaches}
+use Rattle.fv_components.proofs.lemmas.Walks.{reaches_self, reaches_trans, reaches_step}
 use Rattle.fv_split_lanes.specs.inner.Homes.{AreLower, AreSingle, AreLaneless, given, AreHomesFrom}
 
 abbrev one_given : (inner : ℕ → Bool) → List ℕ → ℕ → ℕ → List ℕ

@@ -8,7 +8,7 @@ use Rattle.fv_signal.specs.declared.rate.Rate.{Rate}
 use Rattle.fv_signal.specs.declared.rate.Rate.TheVariants as rate
 use Rattle.fv_signal.specs.headline.Value.{Graph}
 use Rattle.fv_signal.specs.headline.Rates.{rate_at}
-use Rattle.fv_split_components.specs.headline.Reach.{at}
+use Rattle.fv_components.specs.headline.Reach.{at}
 use Rattle.fv_analysis.specs.headline.Stands.{node}
 use Rattle.fv_split_plan.specs.headline.Separated.{IsComputed}
 use Rattle.fv_split_plan.specs.Separated.{lane_at}

@@ -6,9 +6,9 @@ use Rattle.std.proofs.lemmas.List.Elements.{All-from_get_or}
 use Rattle.fv_signal.specs.declared.rate.Rate.{Rate}
 use Rattle.fv_signal.specs.headline.Value.{Graph, IsGraph}
 use Rattle.fv_signal.specs.headline.Rates.{rates}
-use Rattle.fv_split_components.specs.headline.Reach.{at}
-use Rattle.fv_split_components.specs.Reach.{next_of, AreLinks, AreComponents}
-use Rattle.fv_split_components.proofs.lemmas.Walks.{reaches_trans}
+use Rattle.fv_components.specs.headline.Reach.{at}
+use Rattle.fv_components.specs.Reach.{next_of, AreLinks, AreComponents}
+use Rattle.fv_components.proofs.lemmas.Walks.{reaches_trans}
 use Rattle.fv_split_plan.specs.headline.Separated.{AsShared, links_of}
 use Rattle.fv_split_lanes.specs.declared.lanes.Lanes.{Lanes}
 use Rattle.fv_split_lanes.specs.declared.lanes.Numbering.{Numbering}

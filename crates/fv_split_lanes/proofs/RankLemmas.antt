@@ -5,8 +5,8 @@ use Rattle.std.specs.Prelude.{All}
 use Rattle.std.proofs.lemmas.List.{get_or-set_same, get_or-set_other, length-set, length_push, get_or_push, get_or_append_left}
 use Rattle.std.proofs.lemmas.List.Elements.{All-get_or}
 use Rattle.std.proofs.lemmas.Bool.{cases_lt, cases_eq}
-use Rattle.fv_split_components.specs.headline.Reach.{Links, at, Reaches}
-use Rattle.fv_split_components.specs.Reach.{AreComponents}
+use Rattle.fv_components.specs.headline.Reach.{Links, at, Reaches}
+use Rattle.fv_components.specs.Reach.{AreComponents}
 use Rattle.fv_split_lanes.specs.inner.Homes.{bit_at}
 use Rattle.fv_split_lanes.specs.inner.Ranks.{rank_of, HasMarked, AreMet, AreRanks, AreLoops}
 

@@ -3,8 +3,8 @@ use Rattle.std.proofs.Common.{◌≡◌, ◌≢◌, ◌⊎◌, inl, inr, ℕ, ze
 use Rattle.std.specs.Prelude.{nat_eq}
 use Rattle.std.proofs.lemmas.List.{get_or-set_same, get_or-set_other, length-set, get_or_default}
 use Rattle.std.proofs.lemmas.Bool.{cases_eq, cond-true, cond-false, eq-eqb, ne_eqb}
-use Rattle.fv_split_components.specs.headline.Reach.{Links, at, Leads}
-use Rattle.fv_split_components.specs.Reach.{AreLinks}
+use Rattle.fv_components.specs.headline.Reach.{Links, at, Leads}
+use Rattle.fv_components.specs.Reach.{AreLinks}
 use Rattle.fv_split_lanes.specs.declared.reader.Reader.{Reader}
 use Rattle.fv_split_lanes.specs.declared.reader.Reader.TheVariants.{Nobody, One, Many}
 use Rattle.fv_split_lanes.specs.inner.Readers.{reader_at, IsReader, met_by, with_row, ReadsBelow, AreReaders}

@@ -3,7 +3,7 @@ use Rattle.std.specs.Prelude.{◌≡◌, ◌↔◌, ◌⊎◌, ℕ, ◌<◌, ◌
 use Rattle.fv_signal.specs.declared.rate.Rate.TheVariants as rate
 use Rattle.fv_signal.specs.headline.Value.{Graph}
 use Rattle.fv_signal.specs.headline.Rates.{rate_of}
-use Rattle.fv_split_components.specs.headline.Reach.{at, Reaches}
+use Rattle.fv_components.specs.headline.Reach.{at, Reaches}
 use Rattle.fv_analysis.specs.headline.Stands.{node}
 use Rattle.fv_split_plan.specs.headline.Separated.{IsSeparated, IsComputed, ReadsSignal, links_of}
 use Rattle.fv_split_plan.specs.Separated.{lane_at}

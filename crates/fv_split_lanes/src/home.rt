@@ -1,10 +1,10 @@
 // The loop in whose code each signal is computed.
 
 ghost use Rattle.std.specs.Prelude.{◌≡◌, ◌<◌, ◌≤◌, length, All, IfOk};
-ghost use Rattle.fv_split_components.specs.Reach.{next_of};
+ghost use Rattle.fv_components.specs.Reach.{next_of};
 ghost use Rattle.fv_split_lanes.specs.inner.Homes.{bit_at, AreLower, AreSingle, AreLaneless, given, AreHomes};
 
-use fv_split_components::Rows;
+use fv_components::Rows;
 use std::alloc::{AllocError, Global};
 
 // Gives a home to the inner ones among some signals.

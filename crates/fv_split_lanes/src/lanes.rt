@@ -4,7 +4,7 @@ ghost use Rattle.std.specs.Prelude.{◌≡◌, ◌↔◌, ◌<◌, ℕ, length, 
 ghost use Rattle.fv_signal.specs.headline.Value.{IsGraph};
 ghost use Rattle.fv_signal.specs.headline.Rates.{rates as rates_of};
 ghost use Rattle.fv_signal.specs.declared.rate.Rate.TheVariants as rate;
-ghost use Rattle.fv_split_components.specs.headline.Reach.{at};
+ghost use Rattle.fv_components.specs.headline.Reach.{at};
 ghost use Rattle.fv_analysis.specs.headline.Stands.{stands_of};
 ghost use Rattle.fv_split_plan.specs.headline.Separated.{IsComputed};
 ghost use Rattle.fv_split_lanes.specs.Placed.{ArePlaced};
@@ -16,8 +16,8 @@ use crate::rank::ranks;
 use crate::reader::readers;
 use crate::rows::{links, reads};
 use fv_analysis::Rates;
+use fv_components::components;
 use fv_signal::{Graph, Rate, Signal, SignalId};
-use fv_split_components::components;
 use std::alloc::{AllocError, Global};
 
 /// The lanes and loops of a graph, and the loop in whose code each signal is computed.

@@ -3,7 +3,7 @@
 ghost use Rattle.std.specs.Prelude.{◌≡◌, ◌↔◌, ℕ, ◌<◌, length, All, IfOk, IsTrue, true, false};
 ghost use Rattle.fv_signal.specs.headline.Value.{IsGraph};
 ghost use Rattle.fv_signal.specs.headline.Rates.{rates as rates_of};
-ghost use Rattle.fv_split_components.specs.headline.Reach.{at};
+ghost use Rattle.fv_components.specs.headline.Reach.{at};
 ghost use Rattle.fv_analysis.specs.headline.Stands.{stands_of};
 ghost use Rattle.fv_analysis.specs.inner.History.{IsOver};
 ghost use Rattle.fv_split_plan.specs.headline.Separated.{IsComputed};

@@ -1,7 +1,7 @@
 // The numbers of loops.
 
 ghost use Rattle.std.specs.Prelude.{◌≡◌, ℕ, ◌+◌, ◌<◌, ◌≤◌, length, All, IfOk};
-ghost use Rattle.fv_split_components.specs.headline.Reach.{at};
+ghost use Rattle.fv_components.specs.headline.Reach.{at};
 ghost use Rattle.fv_split_lanes.specs.inner.Ranks.{rank_of, AreMet, AreRanks};
 
 use std::alloc::{AllocError, Global};

@@ -1,11 +1,11 @@
 // Who reads each signal.
 
 ghost use Rattle.std.specs.Prelude.{◌≡◌, ◌<◌, length, All, IfOk};
-ghost use Rattle.fv_split_components.specs.Reach.{AreLinks};
-ghost use Rattle.fv_split_components.specs.Reach.{next_of};
+ghost use Rattle.fv_components.specs.Reach.{AreLinks};
+ghost use Rattle.fv_components.specs.Reach.{next_of};
 ghost use Rattle.fv_split_lanes.specs.inner.Readers.{met_by as met_by_of, with_row, AreReaders};
 
-use fv_split_components::Rows;
+use fv_components::Rows;
 use std::alloc::{AllocError, Global};
 
 /// The readers of a signal.

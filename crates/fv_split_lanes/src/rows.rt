@@ -1,15 +1,15 @@
 // What each signal leads to and reads, row by row.
 
 ghost use Rattle.std.specs.Prelude.{◌≡◌, ◌<◌, ◌++◌, ◌∷◌, [], length, map, All, IfOk, OnOk};
-ghost use Rattle.fv_split_components.specs.headline.Reach.{at};
+ghost use Rattle.fv_components.specs.headline.Reach.{at};
 ghost use Rattle.fv_signal.specs.headline.Value.{NamesWithin};
 ghost use Rattle.fv_analysis.specs.headline.Stands.{stands_of};
 ghost use Rattle.fv_split_plan.specs.headline.Separated.{operands as operands_of, found_from, links_of};
 ghost use Rattle.fv_split_plan.specs.inner.Separated.{OperandsWithin};
 ghost use Rattle.fv_split_lanes.specs.inner.Rows.{reads_of, AreRows};
 
+use fv_components::Rows;
 use fv_signal::{Graph, Signal, SignalId};
-use fv_split_components::Rows;
 use std::alloc::{AllocError, Global};
 
 // The numbers of four signals.

@@ -7,7 +7,7 @@ pub mod Tasks
 pub mod Rows
 pub mod inner
 -- what it hands on of crates below
-pub use Rattle.fv_split_components.specs.headline.Reach
+pub use Rattle.fv_components.specs.headline.Reach
 pub use Rattle.fv_outside.specs.headline.Tasks as TasksBeside
 pub use Rattle.fv_signal.specs.headline.Value
 pub use Rattle.fv_loopcode.specs.Obeys as ObeysBeside

@@ -7,9 +7,9 @@ use Rattle.fv_graph.specs.Net.{Net}
 use Rattle.fv_graph.specs.Graph.{net_of, feeds_of}
 use Rattle.fv_graph.specs.Wires.{IsWires, wires_of}
 use Rattle.fv_graph.proofs.lemmas.Counts.{bit_left, total_append}
-use Rattle.fv_ready_rule.specs.declared.Deed.TheVariants.{Arrived}
-use Rattle.fv_ready_rule.specs.declared.View.{View}
-use Rattle.fv_ready_rule.specs.Rule.{done_by, noted, arrives, finishes}
+use Rattle.fv_ready.specs.declared.view.Deed.TheVariants.{Arrived}
+use Rattle.fv_ready.specs.declared.view.View.{View}
+use Rattle.fv_ready.specs.Rule.{done_by, noted, arrives, finishes}
 use Rattle.fv_steal.specs.inner.Steps.{HasArrived, PutAsZeroed, PutBetween}
 use Rattle.fv_steal.proofs.Lists.{times_at, times_take, none_before}
 use Rattle.fv_steal.proofs.Looks.{zeroed_after}

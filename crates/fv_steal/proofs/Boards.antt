@@ -9,20 +9,20 @@ use Rattle.fv_outside.specs.declared.tasks.Task.{Task}
 use Rattle.fv_graph.specs.Graph.{Graph, net_of, inward, outward, reader_of, task_of, task_at}
 use Rattle.fv_graph.specs.Wires.{IsWires, wires_of}
 use Rattle.fv_graph.proofs.lemmas.Counts.{bit_same, total_append, total_set}
-use Rattle.fv_ready_rule.specs.declared.View.{View}
-use Rattle.fv_ready_rule.specs.declared.Deed.TheVariants.{Stamped}
-use Rattle.fv_ready_rule.specs.Wired.{graph_wires}
-use Rattle.fv_ready_rule.specs.Rule.{done_by, noted, stamps, zeroes, places, Fits}
-use Rattle.fv_ready_rule.proofs.lemmas.Hands.{done_noted}
-use Rattle.fv_ready_rule.specs.Carried.{slot_at}
+use Rattle.fv_ready.specs.declared.view.View.{View}
+use Rattle.fv_ready.specs.declared.view.Deed.TheVariants.{Stamped}
+use Rattle.fv_ready.specs.Wired.{graph_wires}
+use Rattle.fv_ready.specs.Rule.{done_by, noted, stamps, zeroes, places, Fits}
+use Rattle.fv_ready.proofs.lemmas.Hands.{done_noted}
+use Rattle.fv_ready.specs.Carried.{slot_at}
 use Rattle.fv_ready.specs.declared.seat.InHand.{InHand}
 use Rattle.fv_ready.specs.declared.board.Board.{Board}
 use Rattle.fv_ready.specs.declared.seat.WorkerSeat.{WorkerSeat}
 use Rattle.fv_ready.specs.Seats.{slots_of, hand_of}
 use Rattle.fv_ready.specs.Boards.{about_of, graph_of, tasks_of, IsSeatOf, AreTaken}
 use Rattle.fv_ready.proofs.lemmas.Seated.{busy_of}
-use Rattle.fv_deque.specs.declared.handles.Victim.{Victim}
-use Rattle.fv_deque.specs.Deques.{taken_by}
+use Rattle.fv_steal.specs.declared.handles.Victim.{Victim}
+use Rattle.fv_steal.specs.Deques.{taken_by}
 use Rattle.fv_steal.specs.inner.Steps.{AreFull, AreEmpty, PutAsZeroed}
 use Rattle.fv_steal.proofs.Lists.{times_at, times_drop, times_take}
 use Rattle.fv_steal.proofs.Edges.{reader_needs, not_inward}

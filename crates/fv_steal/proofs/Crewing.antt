@@ -8,16 +8,16 @@ use Rattle.fv_outside.specs.Tasks.{times, task_count}
 use Rattle.fv_outside.specs.headline.Journal.{stamped}
 use Rattle.fv_graph.specs.Graph.{net_of, inward, outward}
 use Rattle.fv_graph.proofs.lemmas.Counts.{get_map}
-use Rattle.fv_graph_core.specs.Core.{opening, deque_of, dealt, ready}
-use Rattle.fv_ready_rule.specs.declared.Deed.{Deed}
-use Rattle.fv_ready_rule.specs.declared.About.{About}
-use Rattle.fv_ready_rule.specs.declared.View.{View}
-use Rattle.fv_ready_rule.specs.Rule.{done_by, wins, claims, stamps, zeroes}
+use Rattle.fv_graph.specs.Core.{opening, deque_of, dealt, ready}
+use Rattle.fv_ready.specs.declared.view.Deed.{Deed}
+use Rattle.fv_ready.specs.declared.view.About.{About}
+use Rattle.fv_ready.specs.declared.view.View.{View}
+use Rattle.fv_ready.specs.Rule.{done_by, wins, claims, stamps, zeroes}
 use Rattle.fv_ready.specs.declared.seat.WorkerSeat.{WorkerSeat}
 use Rattle.fv_ready.specs.Begun.{IsFirstSeat, AreFirstSeats}
-use Rattle.fv_deque.specs.declared.handles.TaskDeque.{TaskDeque}
-use Rattle.fv_deque.specs.declared.handles.Victim.{Victim}
-use Rattle.fv_deque.specs.Deques.{account_of, lies_at, robs, taken_by}
+use Rattle.fv_steal.specs.declared.handles.TaskDeque.{TaskDeque}
+use Rattle.fv_steal.specs.declared.handles.Victim.{Victim}
+use Rattle.fv_steal.specs.Deques.{account_of, lies_at, robs, taken_by}
 use Rattle.fv_steal.specs.declared.worker.Worker.{Worker}
 use Rattle.fv_steal.specs.Crews.{did, number_of, seat_of, lines_of, lines_held, parcels_of, parcels_held, number_in, IsLineOf, IsWorker, IsEven, IsCrew}
 use Rattle.fv_steal.specs.inner.Made.{puts_of, rest_of, rests_of, kept_of, HaveLent}

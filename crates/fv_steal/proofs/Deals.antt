@@ -8,9 +8,9 @@ use Rattle.std.proofs.lemmas.List.{length-map, take_more, map_push, length-repli
 use Rattle.fv_outside.specs.headline.Tasks.{bit, total}
 use Rattle.fv_outside.specs.Tasks.{times}
 use Rattle.fv_graph.proofs.lemmas.Counts.{get_set, get_map, bit_apart, total_append}
-use Rattle.fv_deque.specs.declared.handles.TaskDeque.{TaskDeque}
-use Rattle.fv_deque.specs.declared.handles.Victim.{Victim}
-use Rattle.fv_deque.specs.Deques.{account_of, lies_at, robs, taken_by}
+use Rattle.fv_steal.specs.declared.handles.TaskDeque.{TaskDeque}
+use Rattle.fv_steal.specs.declared.handles.Victim.{Victim}
+use Rattle.fv_steal.specs.Deques.{account_of, lies_at, robs, taken_by}
 use Rattle.fv_steal.specs.inner.Made.{puts_of, rest_of, rests_of, kept_of, HasLent, HaveLent}
 
 -- a room that all deques have

@@ -6,13 +6,13 @@ use Rattle.fv_outside.specs.Tasks.{times, task_count}
 use Rattle.fv_graph.specs.Net.{need_count}
 use Rattle.fv_graph.specs.Graph.{net_of}
 use Rattle.fv_graph.proofs.lemmas.Counts.{total_set, get_set}
-use Rattle.fv_graph_core.specs.Core.{opening, deque_of}
-use Rattle.fv_ready_rule.specs.Rule.{done_by, claims, zeroes}
+use Rattle.fv_graph.specs.Core.{opening, deque_of}
+use Rattle.fv_ready.specs.Rule.{done_by, claims, zeroes}
 use Rattle.fv_ready.specs.declared.board.Board.{Board}
 use Rattle.fv_ready.specs.Seats.{view_of, slots_of, hand_of}
 use Rattle.fv_ready.specs.Boards.{about_of, name_of}
 use Rattle.fv_ready.specs.Counted.{NothingLeft}
-use Rattle.fv_deque.specs.Deques.{account_of, lies_at, robs, taken_by}
+use Rattle.fv_steal.specs.Deques.{account_of, lies_at, robs, taken_by}
 use Rattle.fv_steal.specs.declared.worker.Worker.{Worker}
 use Rattle.fv_steal.specs.Crews.{did, took, seat_of, IsWorkerOf, IsSame, IsCrew}
 use Rattle.fv_steal.specs.inner.Gathers.{HoldAll, HaveGiven}

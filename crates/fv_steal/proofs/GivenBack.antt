@@ -3,8 +3,8 @@ use Rattle.std.proofs.Common.{◌≡◌, ◌≢◌, ℕ, suc, ◌+◌, ◌<◌, 
 use Rattle.std.specs.Global.{Vec}
 use mathlib.Core.Logic.{dite}
 use native.Mathlib.Decide.{ℕ_discrete, dec_le}
-use Rattle.fv_deque.specs.declared.handles.Victim.{Victim}
-use Rattle.fv_deque.specs.Deques.{lies_at, robs}
+use Rattle.fv_steal.specs.declared.handles.Victim.{Victim}
+use Rattle.fv_steal.specs.Deques.{lies_at, robs}
 use Rattle.fv_steal.specs.declared.worker.Worker.{Worker}
 use Rattle.fv_steal.specs.inner.Gathers.{places, IsBefore, HasGiven, HoldAll, HaveGiven}
 use Rattle.fv_steal.proofs.Giving.{leb_bit, rest_then}

@@ -8,11 +8,11 @@ use native.Mathlib.Decide.{dec_le}
 use Rattle.fv_outside.specs.headline.Tasks.{bit, total}
 use Rattle.fv_outside.specs.Tasks.{times}
 use Rattle.fv_graph.proofs.lemmas.Counts.{total_set, total_append, get_set, get_map}
-use Rattle.fv_deque.specs.declared.rule.Account.{Account}
-use Rattle.fv_deque.specs.declared.handles.TaskDeque.{TaskDeque}
-use Rattle.fv_deque.specs.declared.handles.Victim.{Victim}
-use Rattle.fv_deque.specs.Balance.{account}
-use Rattle.fv_deque.specs.Deques.{account_of, lies_at, robs, taken_by}
+use Rattle.fv_steal.specs.declared.rule.Account.{Account}
+use Rattle.fv_steal.specs.declared.handles.TaskDeque.{TaskDeque}
+use Rattle.fv_steal.specs.declared.handles.Victim.{Victim}
+use Rattle.fv_steal.specs.Balance.{account}
+use Rattle.fv_steal.specs.Deques.{account_of, lies_at, robs, taken_by}
 use Rattle.fv_steal.specs.declared.worker.Worker.{Worker}
 use Rattle.fv_steal.specs.Crews.{took}
 use Rattle.fv_steal.specs.inner.Gathers.{places, SameRest, Keeps, HasGiven}

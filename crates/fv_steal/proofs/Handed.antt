@@ -9,7 +9,7 @@ use Rattle.fv_ready.specs.declared.board.Board.{Board}
 use Rattle.fv_ready.specs.declared.seat.WorkerSeat.{WorkerSeat}
 use Rattle.fv_ready.specs.Seats.{view_of}
 use Rattle.fv_graph.specs.Graph.{Graph, net_of}
-use Rattle.fv_ready_rule.specs.Shown.{OwesNothing}
+use Rattle.fv_ready.specs.Shown.{OwesNothing}
 use Rattle.fv_ready.specs.Boards.{about_of, graph_of, AreSeatsOf}
 use Rattle.fv_ready.proofs.lemmas.Seated.{owes_nothing}
 use Rattle.fv_ready.specs.Counted.{HaveAll}

@@ -1,3 +1,5 @@
+pub mod Balances
+pub mod Pushing
 pub mod Lists
 pub mod Slots
 pub mod Edges
@@ -20,3 +22,5 @@ pub mod Ordered
 pub mod Handed
 pub mod Stolen
 pub mod Places
+pub mod Ending
+pub mod Through

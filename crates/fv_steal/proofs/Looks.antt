@@ -3,10 +3,10 @@ use Rattle.std.proofs.Common.{◌≡◌, ℕ, ◌+◌, ◌<◌, Bool, true, ◌&
 use Rattle.fv_outside.specs.headline.Tasks.{bit}
 use Rattle.fv_graph.specs.Net.{Net}
 use Rattle.fv_graph.proofs.lemmas.Counts.{bit_same, bit_left}
-use Rattle.fv_ready_rule.specs.declared.Deed.TheVariants.{Arrived, Saw}
-use Rattle.fv_ready_rule.specs.declared.View.{View}
-use Rattle.fv_ready_rule.specs.Rule.{done_by, noted, sees, arrives, zeroes}
-use Rattle.fv_ready_rule.proofs.lemmas.Hands.{done_noted}
+use Rattle.fv_ready.specs.declared.view.Deed.TheVariants.{Arrived, Saw}
+use Rattle.fv_ready.specs.declared.view.View.{View}
+use Rattle.fv_ready.specs.Rule.{done_by, noted, sees, arrives, zeroes}
+use Rattle.fv_ready.proofs.lemmas.Hands.{done_noted}
 use Rattle.fv_steal.specs.inner.Steps.{Looked, HasArrived}
 
 module _ {C : Type 0} where

@@ -22,12 +22,12 @@ use Rattle.fv_graph.specs.Graph.{task_at, task_of, source_of, needs_of}
 use Rattle.fv_graph.proofs.lemmas.Graphs.{further}
 use Rattle.fv_graph.proofs.lemmas.Counts.{bit_le, bit_same, bit_apart, bit_swap, bits_agree, both_true, both_of, eq_of}
 use Rattle.fv_graph.proofs.lemmas.Counts.{total_append, total_add, total_at, total_none, times_passing}
-use Rattle.fv_graph_core.specs.Core.{numbers}
-use Rattle.fv_ready_rule.specs.declared.Deed.{Deed}
-use Rattle.fv_ready_rule.specs.declared.Deed.TheVariants.{Stamped, Arrived, Saw, Claimed}
-use Rattle.fv_ready_rule.specs.Rule.{done_by, wins, stamps, finishes}
-use Rattle.fv_ready_rule.specs.Whole.{starts_at, finishes_at}
-use Rattle.fv_ready_rule.proofs.lemmas.Claim.{total_ext}
+use Rattle.fv_graph.specs.Core.{numbers}
+use Rattle.fv_ready.specs.declared.view.Deed.{Deed}
+use Rattle.fv_ready.specs.declared.view.Deed.TheVariants.{Stamped, Arrived, Saw, Claimed}
+use Rattle.fv_ready.specs.Rule.{done_by, wins, stamps, finishes}
+use Rattle.fv_ready.specs.Whole.{starts_at, finishes_at}
+use Rattle.fv_ready.proofs.lemmas.Claim.{total_ext}
 use Rattle.fv_ready.specs.declared.seat.WorkerSeat.{WorkerSeat}
 use Rattle.fv_ready.specs.Seats.{view_of}
 use Rattle.fv_ready.specs.Counted.{told_by}

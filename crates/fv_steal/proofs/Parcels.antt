@@ -10,8 +10,8 @@ use Rattle.fv_outside.specs.Tasks.{times, task_count}
 use Rattle.fv_graph.specs.Graph.{inward, outward}
 use Rattle.fv_graph.specs.Wires.{IsWires, wires_of}
 use Rattle.fv_graph.proofs.lemmas.Counts.{bit_apart}
-use Rattle.fv_ready_rule.specs.Rule.{places}
-use Rattle.fv_ready_rule.specs.Carried.{slot_at, with_slot}
+use Rattle.fv_ready.specs.Rule.{places}
+use Rattle.fv_ready.specs.Carried.{slot_at, with_slot}
 use Rattle.fv_steal.specs.Moves.{AreParcelsOf}
 use Rattle.fv_steal.specs.inner.Steps.{AreFull, AreEmpty}
 use Rattle.fv_steal.proofs.Lists.{times_at, times_cut, times_drop, times_take, apart_behind, apart_before}

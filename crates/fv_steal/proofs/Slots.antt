@@ -4,8 +4,8 @@ use mathlib.Core.Logic.{dite}
 use native.Mathlib.Decide.{ℕ_discrete}
 use Rattle.fv_outside.specs.Tasks.{times}
 use Rattle.fv_graph.proofs.lemmas.Counts.{bit_apart}
-use Rattle.fv_ready_rule.specs.Rule.{places, Each}
-use Rattle.fv_ready_rule.specs.Carried.{slot_at, with_slot}
+use Rattle.fv_ready.specs.Rule.{places, Each}
+use Rattle.fv_ready.specs.Carried.{slot_at, with_slot}
 
 module _ {C : Type 0} where
   -- the slot of the edge whose slot was exchanged

@@ -3,7 +3,7 @@ use Rattle.std.proofs.Common.{◌≡◌, ℕ, ◌+◌, ◌==◌, refl, ap, ◌�
 use Rattle.std.specs.Option.{is_some}
 use Rattle.std.specs.Global.{Vec}
 use Rattle.fv_outside.specs.headline.Tasks.{bit}
-use Rattle.fv_deque.specs.declared.handles.Victim.{Victim}
+use Rattle.fv_steal.specs.declared.handles.Victim.{Victim}
 use Rattle.fv_steal.specs.inner.Turns.{HasStolen}
 
 pub none_stolen : (a : Vec Victim) → HasStolen None a a

@@ -7,8 +7,8 @@ use Rattle.fv_outside.specs.headline.Tasks.{bit, total}
 use Rattle.fv_outside.specs.Tasks.{times}
 use Rattle.fv_graph.specs.Net.{Net, need_count}
 use Rattle.fv_graph.proofs.lemmas.Counts.{times_passing}
-use Rattle.fv_graph_core.specs.Core.{opening, deque_of, ready}
-use Rattle.fv_graph_core.proofs.lemmas.Opens.{times_dealt, length_dealt, length_same, total_same}
+use Rattle.fv_graph.specs.Core.{opening, deque_of, ready}
+use Rattle.fv_graph.proofs.lemmas.Opens.{times_dealt, length_dealt, length_same, total_same}
 
 -- two totals that agree term by term
 pub total_each : {X : Type 0} (f g : X → ℕ) (xs : List X) → All (λ x. f x ≡ g x) xs → total f xs ≡ total g xs
@@ -51,4 +51,4 @@ dealt_none n workers w x there needs =
     let d = times_passing (λ t. need_count n t == 0) 0 n.tasks x (omega arith) (omega arith) in
     let b = Rattle.fv_graph.proofs.lemmas.Counts.bit_apart (need_count n x) 0 (λ e. omega arith) in
     let a = Rattle.fv_graph.proofs.lemmas.Counts.total_at (times x) ds w [] (omega arith) in omega arith)
-    (λ h. ap (times x) (Rattle.fv_graph_core.proofs.lemmas.Opens.get_out ds w [] (omega arith)))
+    (λ h. ap (times x) (Rattle.fv_graph.proofs.lemmas.Opens.get_out ds w [] (omega arith)))

@@ -6,10 +6,10 @@ use Rattle.atomic_table.specs.Seated.{TableId}
 use Rattle.fv_outside.specs.headline.Tasks.{Tasks}
 use Rattle.fv_outside.specs.Tasks.{task_count}
 use Rattle.fv_graph.specs.Graph.{Graph}
-use Rattle.fv_ready_rule.specs.declared.About.{About}
+use Rattle.fv_ready.specs.declared.view.About.{About}
 use Rattle.fv_ready.specs.declared.seat.WorkerSeat.{WorkerSeat}
-use Rattle.fv_deque.specs.declared.handles.TaskDeque.{TaskDeque}
-use Rattle.fv_deque.specs.Deques.{account_of}
+use Rattle.fv_steal.specs.declared.handles.TaskDeque.{TaskDeque}
+use Rattle.fv_steal.specs.Deques.{account_of}
 use Rattle.fv_steal.specs.declared.part.Part.{Part}
 use Rattle.fv_steal.specs.declared.worker.Worker.{Worker}
 use Rattle.fv_steal.specs.Crews.{seat_of, AreFreshSeats, IsCrew}

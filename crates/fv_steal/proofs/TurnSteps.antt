@@ -10,19 +10,19 @@ use Rattle.fv_graph.specs.Graph.{Graph, IsGraph, net_of, feeds_of, task_of}
 use Rattle.fv_graph.proofs.lemmas.Ranges.{quotient_small}
 use Rattle.fv_graph.specs.Wires.{IsWires, wires_of}
 use Rattle.fv_graph.proofs.lemmas.Counts.{bit_same, bit_left, bit_right, total_append}
-use Rattle.fv_ready_rule.specs.declared.Deed.{Deed}
-use Rattle.fv_ready_rule.specs.declared.Deed.TheVariants.{Stamped, Saw, Claimed}
-use Rattle.fv_ready_rule.specs.declared.View.{View}
-use Rattle.fv_ready_rule.specs.Rule.{done_by, noted, wins, claims, arrives, finishes, zeroes}
-use Rattle.fv_ready_rule.proofs.lemmas.Hands.{done_noted}
+use Rattle.fv_ready.specs.declared.view.Deed.{Deed}
+use Rattle.fv_ready.specs.declared.view.Deed.TheVariants.{Stamped, Saw, Claimed}
+use Rattle.fv_ready.specs.declared.view.View.{View}
+use Rattle.fv_ready.specs.Rule.{done_by, noted, wins, claims, arrives, finishes, zeroes}
+use Rattle.fv_ready.proofs.lemmas.Hands.{done_noted}
 use Rattle.fv_ready.specs.declared.board.Board.{Board}
 use Rattle.fv_ready.specs.declared.seat.WorkerSeat.{WorkerSeat}
 use Rattle.fv_ready.specs.Seats.{view_of, slots_of, hand_of}
 use Rattle.fv_ready.specs.Boards.{about_of, graph_of, IsSeatOf}
 use Rattle.fv_ready.proofs.lemmas.Seated.{busy_of}
-use Rattle.fv_deque.specs.declared.rule.Account.{Account}
-use Rattle.fv_deque.specs.declared.handles.TaskDeque.{TaskDeque}
-use Rattle.fv_deque.specs.Deques.{account_of, room_of, lies_at, taken_by}
+use Rattle.fv_steal.specs.declared.rule.Account.{Account}
+use Rattle.fv_steal.specs.declared.handles.TaskDeque.{TaskDeque}
+use Rattle.fv_steal.specs.Deques.{account_of, room_of, lies_at, taken_by}
 use Rattle.fv_steal.specs.declared.worker.Worker.{Worker}
 use Rattle.fv_steal.specs.inner.Steps.{Looked}
 use Rattle.fv_steal.specs.Crews.{did, took, IsWorkerOf, IsJournalOf, IsSame}
@@ -93,7 +93,7 @@ module _ {C Key : Type 0} (edge_of : C → ℕ) (key_of : C → Key) (b : Board 
     seat = subst (λ s. IsSeatOf edge_of key_of b s) (sym seat) h.seat;
     free = (ap hand_of seat ∙ h.free.0, ap slots_of seat ∙ h.free.1);
     number = ap (λ s. (view_of s).numbers) seat ∙ h.number ∙ ap (λ n. n ∷ []) (sym number);
-    put = λ x. ap (times x) keeps.put ∙ h.put x ∙ (λ i. times x (Rattle.fv_graph_core.specs.Core.deque_of (Rattle.fv_graph_core.specs.Core.opening (net_of
+    put = λ x. ap (times x) keeps.put ∙ h.put x ∙ (λ i. times x (Rattle.fv_graph.specs.Core.deque_of (Rattle.fv_graph.specs.Core.opening (net_of
         (about_of b).tasks.value.tasks) (about_of b).workers) (sym number i))
         + done_by (zeroes (net_of (about_of b).tasks.value.tasks) x) (view_of (sym seat i)));
     once = λ x. let o = h.once x in let q = ap (λ s. done_by (wins x) (view_of s)) seat in omega arith;
@@ -110,7 +110,7 @@ module _ {C Key : Type 0} (edge_of : C → ℕ) (key_of : C → Key) (b : Board 
 -- what a pop took
 pub popped : {C : Type 0} (r : Option ℕ) (old : Worker C) (d : TaskDeque) (N : Type 0)
     → MatchOption r ((account_of d ≡ account_of old.deque) × N)
-    (λ x. account_of d ≡ Rattle.fv_deque.specs.Balance.account true (account_of old.deque).lent (account_of old.deque).held (account_of old.deque).put
+    (λ x. account_of d ≡ Rattle.fv_steal.specs.Balance.account true (account_of old.deque).lent (account_of old.deque).held (account_of old.deque).put
     ((account_of old.deque).taken ++ x ∷ []))
     → MatchOption r ((x : ℕ) → times x (account_of d).taken + total (λ v. times x (taken_by v)) old.victims.items ≡ took old x)
     (λ t. (x : ℕ) → times x (account_of d).taken + total (λ v. times x (taken_by v)) old.victims.items ≡ took old x + bit (t == x))
@@ -127,7 +127,7 @@ inside_of g graph t there k q = subst (λ (k : Task). (k.loop_no < g.loops) × (
 pub popped_keeps : {C : Type 0} (r : Option ℕ) (old : Worker C) (d : TaskDeque) (N : Type 0)
     → room_of d ≡ room_of old.deque → lies_at d ≡ lies_at old.deque
     → MatchOption r ((account_of d ≡ account_of old.deque) × N)
-    (λ x. account_of d ≡ Rattle.fv_deque.specs.Balance.account true (account_of old.deque).lent (account_of old.deque).held (account_of old.deque).put
+    (λ x. account_of d ≡ Rattle.fv_steal.specs.Balance.account true (account_of old.deque).lent (account_of old.deque).held (account_of old.deque).put
     ((account_of old.deque).taken ++ x ∷ []))
     → Keeps old (record old { deque = d }) × IsSame old (record old { deque = d })
 popped_keeps None old d N room place h = (

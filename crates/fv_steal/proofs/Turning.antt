@@ -9,13 +9,13 @@ use Rattle.fv_outside.specs.declared.gate.Line.{Line}
 use Rattle.fv_graph.specs.Graph.{net_of, feeds_of, task_of, task_at}
 use Rattle.fv_graph.specs.Wires.{IsWires, wires_of}
 use Rattle.fv_graph.proofs.lemmas.Counts.{bit_le, bit_same, bit_apart, bit_left, eq_of, total_append}
-use Rattle.fv_graph_core.proofs.lemmas.Few.{fewer}
-use Rattle.fv_ready_rule.specs.declared.Deed.{Deed}
-use Rattle.fv_ready_rule.specs.declared.Deed.TheVariants.{Stamped, Arrived, Saw, Claimed}
-use Rattle.fv_ready_rule.specs.declared.View.{View}
-use Rattle.fv_ready_rule.specs.Rule.{done_by, noted, wins, claims, arrives, finishes, stamps, zeroes}
-use Rattle.fv_ready_rule.specs.Whole.{starts_at, finishes_at}
-use Rattle.fv_ready_rule.proofs.lemmas.Hands.{done_noted}
+use Rattle.fv_graph.proofs.lemmas.Few.{fewer}
+use Rattle.fv_ready.specs.declared.view.Deed.{Deed}
+use Rattle.fv_ready.specs.declared.view.Deed.TheVariants.{Stamped, Arrived, Saw, Claimed}
+use Rattle.fv_ready.specs.declared.view.View.{View}
+use Rattle.fv_ready.specs.Rule.{done_by, noted, wins, claims, arrives, finishes, stamps, zeroes}
+use Rattle.fv_ready.specs.Whole.{starts_at, finishes_at}
+use Rattle.fv_ready.proofs.lemmas.Hands.{done_noted}
 use Rattle.fv_steal.specs.inner.Steps.{Looked, HasArrived, PutBetween}
 use Rattle.fv_steal.specs.Crews.{number_in, IsLineOf, IsJournalOf}
 

@@ -10,22 +10,22 @@ use Rattle.fv_outside.specs.declared.gate.Line.{Line}
 use Rattle.fv_graph.specs.Graph.{net_of, task_of}
 use Rattle.fv_graph.specs.Wires.{IsWires, wires_of}
 use Rattle.fv_graph.proofs.lemmas.Counts.{bit_same, bit_apart}
-use Rattle.fv_graph_core.specs.Core.{opening, deque_of}
-use Rattle.fv_ready_rule.specs.declared.Deed.TheVariants.{Stamped, Claimed}
-use Rattle.fv_ready_rule.specs.declared.About.{About}
-use Rattle.fv_ready_rule.specs.declared.View.{View}
-use Rattle.fv_ready_rule.specs.Wired.{graph_wires}
-use Rattle.fv_ready_rule.specs.Rule.{done_by, noted, wins, finishes, places}
-use Rattle.fv_ready_rule.specs.Carried.{IsFree, IsBusy}
+use Rattle.fv_graph.specs.Core.{opening, deque_of}
+use Rattle.fv_ready.specs.declared.view.Deed.TheVariants.{Stamped, Claimed}
+use Rattle.fv_ready.specs.declared.view.About.{About}
+use Rattle.fv_ready.specs.declared.view.View.{View}
+use Rattle.fv_ready.specs.Wired.{graph_wires}
+use Rattle.fv_ready.specs.Rule.{done_by, noted, wins, finishes, places}
+use Rattle.fv_ready.specs.Carried.{IsFree, IsBusy}
 use Rattle.fv_ready.specs.declared.seat.InHand.{InHand}
 use Rattle.fv_ready.specs.declared.seat.WorkerSeat.{WorkerSeat}
 use Rattle.fv_ready.specs.Seats.{view_of, slots_of, hand_of, IsSeat}
-use Rattle.fv_deque.specs.Deques.{account_of}
+use Rattle.fv_steal.specs.Deques.{account_of}
 use Rattle.fv_steal.specs.declared.worker.Worker.{Worker}
 use Rattle.fv_steal.specs.inner.Steps.{PutBetween}
 use Rattle.std.specs.Global.{Vec}
-use Rattle.fv_deque.specs.declared.handles.TaskDeque.{TaskDeque}
-use Rattle.fv_ready_rule.specs.Whole.{starts_at, finishes_at}
+use Rattle.fv_steal.specs.declared.handles.TaskDeque.{TaskDeque}
+use Rattle.fv_ready.specs.Whole.{starts_at, finishes_at}
 use Rattle.fv_steal.specs.Crews.{did, lines_of, IsWorker, IsJournalOf}
 use Rattle.fv_steal.proofs.Turning.{IsTurn, wins_more, put_after, none_owed, journal_more, stays}
 
@@ -80,7 +80,7 @@ module _ {C Key : Type 0} (edge_of : C → ℕ) (key_of : C → Key) (id : Table
       number = k.numbers ∙ h.number ∙ ap (λ n. n ∷ []) (sym k.number);
       put = λ x. put_after g t s f (did old) saw (did new) k.turn (account_of old.deque).put (account_of new.deque).put
           (deque_of (opening (net_of g) a.workers) old.number) h.put k.between x
-          ∙ ap (λ n. times x (deque_of (opening (net_of g) a.workers) n) + done_by (Rattle.fv_ready_rule.specs.Rule.zeroes (net_of g) x) (did new))
+          ∙ ap (λ n. times x (deque_of (opening (net_of g) a.workers) n) + done_by (Rattle.fv_ready.specs.Rule.zeroes (net_of g) x) (did new))
           (sym k.number);
       once = λ x. let w = wins_more g t s f (did old) saw (did new) k.turn x in let o = h.once x in
           dite (ℕ_discrete t x) (λ e. let b = bit_same t x e in let z : done_by (wins x) (did old) ≡ 0 = ap (λ j. done_by (wins j) (did old)) (sym e)
@@ -101,7 +101,7 @@ module _ {C Key : Type 0} (edge_of : C → ℕ) (key_of : C → Key) (id : Table
 
   -- the same of a turn in which the task was lost, or of looks alone
   pub record IsLost (old new : Worker C) : Type 0 where
-    pub same : (p : Rattle.fv_ready_rule.specs.declared.Deed.Deed → ℕ) → ((u c : ℕ) → p (Rattle.fv_ready_rule.specs.declared.Deed.TheVariants.Saw u c) ≡ 0)
+    pub same : (p : Rattle.fv_ready.specs.declared.view.Deed.Deed → ℕ) → ((u c : ℕ) → p (Rattle.fv_ready.specs.declared.view.Deed.TheVariants.Saw u c) ≡ 0)
         → ((u : ℕ) → p (Claimed u false) ≡ 0) → done_by p (did new) ≡ done_by p (did old)
     pub seat : IsSeat edge_of key_of id a new.seat
     pub free : (hand_of new.seat ≡ None) × (slots_of new.seat ≡ [])
@@ -114,7 +114,7 @@ module _ {C Key : Type 0} (edge_of : C → ℕ) (key_of : C → Key) (id : Table
       seat = k.seat;
       free = k.free;
       number = k.numbers ∙ h.number ∙ ap (λ n. n ∷ []) (sym k.rest.0);
-      put = λ x. let z = k.same (Rattle.fv_ready_rule.specs.Rule.zeroes (net_of g) x) (λ u c. refl) (λ u. refl) in
+      put = λ x. let z = k.same (Rattle.fv_ready.specs.Rule.zeroes (net_of g) x) (λ u c. refl) (λ u. refl) in
           let p = ap (λ d. times x (account_of d).put) k.rest.1 in let o = h.put x in
           let n = ap (λ n. times x (deque_of (opening (net_of g) a.workers) n)) k.rest.0 in omega arith;
       once = λ x. let w = k.same (wins x) (λ u c. refl) (λ u. refl) in let o = h.once x in omega arith;
@@ -122,7 +122,7 @@ module _ {C Key : Type 0} (edge_of : C → ℕ) (key_of : C → Key) (id : Table
       journal = subst (λ (p : ℕ × List Line). IsJournalOf g p.0 (did new) p.1) (λ i. (sym k.rest.0 i, sym (ap (λ (l : Vec Line). l.items) k.rest.2) i))
           (record {
             each = λ x. let w = k.same (wins x) (λ u c. refl) (λ u. refl) in let o = h.journal.each x in omega arith;
-            stamps = λ n. let w = k.same (Rattle.fv_ready_rule.specs.Rule.stamps n) (λ u c. refl) (λ u. refl) in let o = h.journal.stamps n in omega arith;
+            stamps = λ n. let w = k.same (Rattle.fv_ready.specs.Rule.stamps n) (λ u c. refl) (λ u. refl) in let o = h.journal.stamps n in omega arith;
             each_line = stays g old.number (did old) (did new)
                 (λ m x. let w = k.same (starts_at m x) (λ u c. refl) (λ u. refl) in omega arith)
                 (λ m x. let w = k.same (finishes_at m x) (λ u c. refl) (λ u. refl) in omega arith) (lines_of old) h.journal.each_line;

@@ -9,18 +9,18 @@ use Rattle.fv_outside.specs.headline.Journal.{stamped}
 use Rattle.fv_outside.specs.declared.gate.Line.{Line}
 use Rattle.fv_graph.specs.Net.{Net}
 use Rattle.fv_graph.specs.Graph.{Graph, net_of, inward, outward, task_at}
-use Rattle.fv_graph_core.specs.Core.{opening, deque_of}
-use Rattle.fv_ready_rule.specs.declared.About.{About}
-use Rattle.fv_ready_rule.specs.declared.View.{View}
-use Rattle.fv_ready_rule.specs.Rule.{done_by, wins, claims, stamps, zeroes}
-use Rattle.fv_ready_rule.specs.Whole.{starts_at, finishes_at}
+use Rattle.fv_graph.specs.Core.{opening, deque_of}
+use Rattle.fv_ready.specs.declared.view.About.{About}
+use Rattle.fv_ready.specs.declared.view.View.{View}
+use Rattle.fv_ready.specs.Rule.{done_by, wins, claims, stamps, zeroes}
+use Rattle.fv_ready.specs.Whole.{starts_at, finishes_at}
 use Rattle.fv_ready.specs.declared.seat.WorkerSeat.{WorkerSeat}
 use Rattle.fv_ready.specs.declared.board.Board.{Board}
 use Rattle.fv_ready.specs.Seats.{view_of, slots_of, hand_of, IsSeat}
 use Rattle.fv_ready.specs.Begun.{AreFirstSeats}
 use Rattle.fv_ready.specs.Boards.{name_of, about_of}
-use Rattle.fv_deque.specs.declared.rule.Account.{Account}
-use Rattle.fv_deque.specs.Deques.{account_of, room_of, lies_at, robs, taken_by}
+use Rattle.fv_steal.specs.declared.rule.Account.{Account}
+use Rattle.fv_steal.specs.Deques.{account_of, room_of, lies_at, robs, taken_by}
 use Rattle.fv_steal.specs.declared.worker.Worker.{Worker}
 
 -- what contracts see of a worker: nothing else of it is named

@@ -7,8 +7,8 @@ use Rattle.fv_outside.specs.Tasks.{task_count}
 use Rattle.fv_outside.specs.headline.Journal.{IsOrdered}
 use Rattle.fv_outside.specs.declared.gate.Line.{Line}
 use Rattle.fv_graph.specs.Graph.{IsGraph, net_of}
-use Rattle.fv_ready_rule.specs.Rule.{finishes}
-use Rattle.fv_ready_rule.specs.Promised.{Tells}
+use Rattle.fv_ready.specs.Rule.{finishes}
+use Rattle.fv_ready.specs.Promised.{Tells}
 use Rattle.fv_ready.specs.Counted.{told_by}
 use Rattle.fv_steal.specs.declared.worker.Worker.{Worker}
 use Rattle.fv_steal.specs.Crews.{did, number_of, seat_of, lines_of, IsJournalOf}

@@ -2,14 +2,14 @@
 
 ghost use Rattle.std.specs.Prelude.{◌≡◌, ◌<◌, ◌≤◌, ◌^◌, map, IfOk, IfErr, vec_len, vec_capacity};
 ghost use Rattle.atomic_table.specs.Seated.{TableId};
-ghost use Rattle.fv_ready_rule.specs.declared.About.{About};
+ghost use Rattle.fv_ready.specs.declared.view.About.{About};
 ghost use Rattle.fv_steal.specs.inner.Assembled.{AreParts, AreFrom, AreCrewParts};
 ghost use Rattle.fv_steal.specs.Crews.{seat_of, AreFreshSeats, IsCrew};
 
 use crate::crew_deques::{deal, empty_deques, holds_of_all, most_edges};
 use crate::part::Part;
 use crate::worker::Worker;
-use fv_deque::{TaskDeque, Victim};
+use crate::{TaskDeque, Victim};
 use fv_graph::Tasks;
 use fv_ready::{Parcel, WorkerSeat};
 use std::alloc::{AllocError, Global};

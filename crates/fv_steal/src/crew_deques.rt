@@ -4,11 +4,11 @@ ghost use Rattle.std.specs.Prelude.{◌≡◌, ℕ, ◌==◌, if◌then◌else�
 ghost use Rattle.std.specs.Prelude.{length, replicate, All, IfOk, vec_len, slice_index_or, slice_set};
 ghost use Rattle.fv_outside.specs.Tasks.{times, task_count};
 ghost use Rattle.fv_graph.specs.Graph.{net_of, inward, outward};
-ghost use Rattle.fv_graph_core.specs.Core.{ready, dealt};
-ghost use Rattle.fv_deque.specs.Deques.{room_of};
+ghost use Rattle.fv_graph.specs.Core.{ready, dealt};
+ghost use Rattle.fv_steal.specs.Deques.{room_of};
 ghost use Rattle.fv_steal.specs.inner.Made.{puts_of, rests_of, HasLent, HaveLent};
 
-use fv_deque::{TaskDeque, Victim};
+use crate::{TaskDeque, Victim};
 use fv_graph::Tasks;
 use std::alloc::{AllocError, Global};
 

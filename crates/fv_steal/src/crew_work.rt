@@ -4,7 +4,7 @@ ghost use Rattle.std.specs.Prelude.{◌≡◌, ℕ, ◌+◌, ◌<◌, ◌==◌, 
 ghost use Rattle.fv_outside.specs.headline.Tasks.{bit};
 ghost use Rattle.fv_outside.specs.Tasks.{times};
 ghost use Rattle.fv_graph.specs.Graph.{net_of};
-ghost use Rattle.fv_ready_rule.specs.Shown.{OwesNothing};
+ghost use Rattle.fv_ready.specs.Shown.{OwesNothing};
 ghost use Rattle.fv_ready.specs.Boards.{name_of, about_of, graph_of, AreSeatsOf};
 ghost use Rattle.fv_ready.specs.Counted.{NothingLeft, HaveAll};
 ghost use Rattle.fv_steal.specs.Crews.{did, took, number_of, seat_of, own_account, IsWorkerOf, IsSame, IsCrew};
@@ -12,12 +12,12 @@ ghost use Rattle.fv_steal.specs.inner.Turns.{HasStolen, HasTurned};
 ghost use Rattle.fv_steal.specs.inner.Gathers.{Keeps};
 ghost use Rattle.fv_steal.specs.inner.Drains.{HaveNone, AreDrained};
 
+use crate::Victim;
 use crate::all_holds::gather;
 use crate::body::Body;
 use crate::side_by_side::for_each_mut;
 use crate::turns::turn;
 use crate::worker::Worker;
-use fv_deque::Victim;
 use fv_graph::Tasks;
 use fv_outside::Gate;
 use fv_ready::{Board, Parcel};

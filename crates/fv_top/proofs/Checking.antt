@@ -10,9 +10,9 @@ use Rattle.fv_outside.proofs.lemmas.States.{goes_on_then, fault_earlier, told_be
 use Rattle.fv_top_words.specs.headline.Commands.{Checking}
 use Rattle.fv_top_report.specs.declared.refusal.Refusal.{Refusal}
 use Rattle.fv_top_report.specs.declared.refusal.Refusal.TheVariants.{WriteFault}
-use Rattle.fv_top_text.specs.headline.Program.{TextIs}
-use Rattle.fv_top_text.specs.Program.{IsProgram, IsOfText}
-use Rattle.fv_top_text.specs.headline.Compiled.{Compiled}
+use Rattle.fv_top_program.specs.headline.Program.{TextIs}
+use Rattle.fv_top_program.specs.Program.{IsProgram, IsOfText}
+use Rattle.fv_top_program.specs.headline.Compiled.{Compiled}
 use Rattle.fv_top_report.specs.headline.Lines.{check_line}
 use Rattle.fv_top.specs.headline.Meant.{check_meant}
 use Rattle.fv_top_report.specs.Parts.{AppendsPart}

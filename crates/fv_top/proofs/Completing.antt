@@ -11,12 +11,12 @@ use Rattle.fv_top_report.specs.declared.refusal.Refusal.{Refusal}
 use Rattle.fv_top_report.specs.declared.refusal.Refusal.TheVariants.{NoMemory}
 use Rattle.fv_top_report.specs.declared.status.Tally.{Tally}
 use Rattle.fv_top_report.specs.declared.status.Status.TheVariants.{Done, Refused}
-use Rattle.fv_top_text.specs.Answers.{IsOnce}
-use Rattle.fv_top_text.specs.headline.Compiled.{Compiled}
-use Rattle.fv_top_text.specs.headline.Program.{TextIs}
-use Rattle.fv_top_text.specs.Program.{IsOneText}
-use Rattle.fv_top_rack.specs.headline.Kinds.{FileIs}
-use Rattle.fv_top_rack.specs.Kinds.{IsOneFile}
+use Rattle.fv_top_program.specs.Answers.{IsOnce}
+use Rattle.fv_top_program.specs.headline.Compiled.{Compiled}
+use Rattle.fv_top_program.specs.headline.Program.{TextIs}
+use Rattle.fv_top_program.specs.Program.{IsOneText}
+use Rattle.fv_top_program.specs.headline.Kinds.{FileIs}
+use Rattle.fv_top_program.specs.Kinds.{IsOneFile}
 use Rattle.fv_top_words.specs.declared.manner.InputKind.{InputKind}
 use Rattle.fv_top_files.specs.headline.Sources.{Source, found, script_of, source_of}
 use Rattle.fv_top_files.specs.headline.Output.{coding_of, format_of, cut_in}

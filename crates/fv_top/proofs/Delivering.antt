@@ -19,8 +19,8 @@ use Rattle.fv_engine_render.specs.headline.Render.{RanTo, initial_of}
 use Rattle.fv_engine_render.specs.Render.{RanWhole}
 use Rattle.fv_engine_render.specs.declared.blocks.Ran.{Ran}
 use Rattle.fv_engine_render.specs.declared.blocks.RunSizes.{RunSizes}
-use Rattle.fv_engine_files.specs.headline.Files.{IsCutAt}
-use Rattle.fv_engine_files.specs.Files.{AreTakenOf, HasTaken, frames_at}
+use Rattle.fv_engine_render.specs.headline.Files.{IsCutAt}
+use Rattle.fv_engine_render.specs.Files.{AreTakenOf, HasTaken, frames_at}
 use Rattle.fv_file_tape.specs.headline.Tapes.{HasBegun}
 use Rattle.fv_file_tape.specs.Tapes.{Streams, files_of}
 use Rattle.fv_file_tape.specs.declared.samples.InputSamples.{InputSamples}
@@ -31,7 +31,7 @@ use Rattle.fv_top_words.specs.headline.Commands.{Playing}
 use Rattle.fv_top_report.specs.declared.refusal.Refusal.{Refusal}
 use Rattle.fv_top_report.specs.declared.refusal.Refusal.TheVariants.{ReadFault, WriteFault, NoMemory}
 use Rattle.fv_pcm.specs.declared.coding.Coding.{Coding}
-use Rattle.fv_top_text.specs.headline.Compiled.{Compiled}
+use Rattle.fv_top_program.specs.headline.Compiled.{Compiled}
 use Rattle.fv_top.specs.declared.prepare.Prepared.{Prepared}
 use Rattle.fv_top_files.specs.headline.Inputs.{truncated, stated_frames}
 use Rattle.fv_top_files.specs.headline.Sources.{frames_of, data_of}

@@ -18,11 +18,11 @@ use Rattle.fv_top_make.specs.headline.Made.{text_of, noise_behind, noise_of, sum
 use Rattle.fv_top_make.specs.Made.{SumsAddUp, sum_from}
 use Rattle.fv_top_make.specs.Noises.{Sounds}
 use Rattle.fv_top_make.specs.declared.noise_tape.Noise.{Noise}
-use Rattle.fv_top_rack.specs.headline.Kinds.{FileIs}
-use Rattle.fv_top_rack.specs.Kinds.{IsOfKind}
+use Rattle.fv_top_program.specs.headline.Kinds.{FileIs}
+use Rattle.fv_top_program.specs.Kinds.{IsOfKind}
 use Rattle.fv_top_words.specs.declared.manner.ProgramKind.TheVariants.{Alone}
 use Rattle.fv_top_words.specs.headline.Commands.{Making}
-use Rattle.fv_top_voices.specs.Voices.{VoicesAreNotRefused}
+use Rattle.fv_top_make.specs.Voices.{VoicesAreNotRefused}
 use Rattle.fv_top_report.specs.headline.Lines.{made_line}
 use Rattle.fv_top.specs.headline.Meant.{make_meant}
 use Rattle.fv_top_report.specs.Parts.{AppendsPart}

@@ -22,7 +22,7 @@ use Rattle.fv_diagram.specs.headline.Streams.{run}
 use Rattle.fv_diagram.specs.headline.Samples.{no_slots}
 use Rattle.fv_control.specs.headline.Streams.{control_streams}
 use Rattle.fv_engine_render.specs.headline.Render.{initial_of}
-use Rattle.fv_engine_files.specs.Files.{AreTakenOf, HasTaken, HasPlayed, StopsAt, IsStopFor, answered, output_of, frames_at}
+use Rattle.fv_engine_render.specs.Files.{AreTakenOf, HasTaken, HasPlayed, StopsAt, IsStopFor, answered, output_of, frames_at}
 use Rattle.fv_file_tape.specs.headline.Tapes.{head_in}
 use Rattle.fv_file_tape.specs.Tapes.{IsInput, Streams, CannotSay, channels_of, files_of}
 use Rattle.fv_file_tape.specs.declared.samples.InputSamples.{InputSamples}
@@ -40,7 +40,7 @@ use Rattle.fv_top_files.specs.headline.Loading.{IsRest, IsWithin}
 use Rattle.fv_top_files.specs.Loading.{IsLeft}
 use Rattle.fv_top_files.specs.Formats.{format_in}
 use Rattle.fv_top.specs.inner.Prepared.{CanRun, HasRun, IsEndFor, EndsAt, samples_of, output_head, coding_heard, frames_there, file_there}
-use Rattle.fv_top_text.specs.headline.Compiled.{Compiled}
+use Rattle.fv_top_program.specs.headline.Compiled.{Compiled}
 
 -- ---- the frames of a file
 

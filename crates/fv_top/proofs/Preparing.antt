@@ -11,9 +11,9 @@ use Rattle.fv_top_words.specs.headline.Commands.{Playing}
 use Rattle.fv_top_files.specs.declared.incoming.Incoming.{Incoming}
 use Rattle.fv_top_report.specs.declared.refusal.Refusal.{Refusal}
 use Rattle.fv_top_report.specs.declared.refusal.Refusal.TheVariants.{NoMemory}
-use Rattle.fv_top_rack.specs.headline.Kinds.{FileIs}
-use Rattle.fv_top_rack.specs.Kinds.{IsOfKind}
-use Rattle.fv_top_text.specs.headline.Compiled.{Compiled}
+use Rattle.fv_top_program.specs.headline.Kinds.{FileIs}
+use Rattle.fv_top_program.specs.Kinds.{IsOfKind}
+use Rattle.fv_top_program.specs.headline.Compiled.{Compiled}
 use Rattle.fv_top_files.specs.headline.Output.{OutputFormat, coding_of, format_of}
 use Rattle.fv_top_files.specs.headline.Loading.{HasScript, HasInput, reading}
 use Rattle.fv_top_files.specs.Loading.{ReadsFile, IsFile, HasHead, IsLeft, IsHeadRefusal}

@@ -15,9 +15,9 @@ use Rattle.fv_engine_render.specs.declared.blocks.RunSizes.{RunSizes}
 use Rattle.fv_engine_render.specs.declared.tape.Played.{Played}
 use Rattle.fv_engine_render.specs.declared.tape.Ready.{Ready}
 use Rattle.fv_interval.specs.headline.Controls.{spans_of}
-use Rattle.fv_top_playable.specs.Playables.{IsPlayable}
-use Rattle.fv_top_playable.specs.declared.playable.Playable.{Playable}
-use Rattle.fv_top_text.specs.headline.Compiled.{Compiled}
+use Rattle.fv_top_program.specs.Playables.{IsPlayable}
+use Rattle.fv_top_program.specs.declared.playable.Playable.{Playable}
+use Rattle.fv_top_program.specs.headline.Compiled.{Compiled}
 use Rattle.fv_top_words.specs.headline.Runs.{Settings}
 use Rattle.fv_top_words.specs.Runs.{AreValid}
 use Rattle.fv_top_words.specs.declared.cause.Cause.{Cause}

@@ -17,7 +17,7 @@ use Rattle.fv_pcm.specs.declared.coding.Coding.{Coding}
 use Rattle.fv_pcm.specs.headline.Sizes.{data_size, data_limit}
 use Rattle.fv_top_report.specs.declared.refusal.Refusal.{Refusal}
 use Rattle.fv_top_report.specs.declared.refusal.Refusal.TheVariants.{ReadFault, Channels, FramesNeeded, OutputTooLong}
-use Rattle.fv_top_rack.specs.Kinds.{IsOfKind}
+use Rattle.fv_top_program.specs.Kinds.{IsOfKind}
 use Rattle.fv_top_files.specs.headline.Output.{OutputFormat, format_of, counted, channels_in, bits_in, frames_in}
 use Rattle.fv_top_files.specs.headline.Inputs.{stated_frames}
 use Rattle.fv_top_files.specs.headline.Loading.{IsThere, reading}

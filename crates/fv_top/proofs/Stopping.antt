@@ -18,7 +18,7 @@ use Rattle.fv_top_report.specs.declared.refusal.Refusal.TheVariants.{Usage, NoMe
 use Rattle.fv_pcm.specs.declared.coding.Coding.{Coding}
 use Rattle.fv_pcm.specs.declared.coding.Coding.TheVariants as coding
 use Rattle.fv_top_words.specs.declared.manner.InputKind.{InputKind}
-use Rattle.fv_top_rack.specs.Kinds.{IsOfKind}
+use Rattle.fv_top_program.specs.Kinds.{IsOfKind}
 use Rattle.fv_top_files.specs.declared.incoming.Incoming.{Incoming}
 use Rattle.fv_top_files.specs.headline.Inputs.{truncated, read_bytes}
 use Rattle.fv_top.specs.headline.Stages.{Rules, Turn, fault_of, reads, writes, Ends}

@@ -10,7 +10,6 @@ mod run;
 mod script;
 mod tape;
 
-pub use fv_top_rack::{jobs_answer, one_file};
+pub use fv_top_program::{jobs_answer, one_file, one_program};
 pub use fv_top_report::{Cause, Refusal, Status, Tally};
-pub use fv_top_text::one_program;
 pub use run::run_faustvec;

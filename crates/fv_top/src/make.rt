@@ -8,17 +8,16 @@ ghost use Rattle.fv_top_report.specs.declared.refusal.Refusal.TheVariants.{Write
 ghost use Rattle.fv_top.specs.headline.Played.{make_sizes};
 ghost use Rattle.fv_top.specs.inner.Played.{MakeRan, MakeSoFar};
 ghost use Rattle.fv_top.specs.headline.Meant.{made_sum};
-ghost use Rattle.fv_top_text.specs.headline.Compiled.{Compiled};
-ghost use Rattle.fv_top_playable.specs.Playables.{IsPlayable};
+ghost use Rattle.fv_top_program.specs.headline.Compiled.{Compiled};
+ghost use Rattle.fv_top_program.specs.Playables.{IsPlayable};
 ghost use Rattle.fv_top.specs.headline.Promise.{IsMade};
 ghost use Rattle.fv_top.specs.inner.Running.{Makes, StopsMake, HasSum};
 
 use fv_engine_render::{Played, Ran, RunSizes, make_ready_graph, render_tape};
 use fv_outside::{Desk, Gate, Role};
-use fv_top_make::{Noise, NoiseTape, sums_add_up, text_of};
-use fv_top_playable::{Playable, read_playable};
+use fv_top_make::{Noise, NoiseTape, sums_add_up, text_of, voices_are_a_program};
+use fv_top_program::{Playable, read_playable};
 use fv_top_report::{Refusal, report_made};
-use fv_top_voices::voices_are_a_program;
 use fv_top_words::ProgramKind;
 use std::alloc::{AllocError, Global};
 use std::sync::Wait;

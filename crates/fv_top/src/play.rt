@@ -6,13 +6,12 @@ ghost use Rattle.fv_engine_render.specs.Render.{RanWhole};
 ghost use Rattle.fv_outside.specs.headline.Desk.{HasFault, KeepsFaults, IsUnfailing};
 ghost use Rattle.fv_outside.specs.Desk.{Appends};
 ghost use Rattle.fv_top_report.specs.Parts.{AppendsPart};
-ghost use Rattle.fv_top_text.specs.headline.Compiled.{Compiled};
+ghost use Rattle.fv_top_program.specs.headline.Compiled.{Compiled};
 ghost use Rattle.fv_top_files.specs.headline.Output.{pad_in};
 ghost use Rattle.fv_top.specs.inner.Prepared.{CanRun, HasRun, StopsRun, coding_heard, refusal_of_stop};
 
 use crate::prepare::Prepared;
-use fv_engine_files::play_files;
-use fv_engine_render::{Played, Ran};
+use fv_engine_render::{Played, Ran, play_files};
 use fv_file_tape::{InputSamples, Stop};
 use fv_outside::{Desk, Gate, Role};
 use fv_pcm::Coding;

@@ -4,14 +4,14 @@ ghost use Rattle.std.specs.Prelude.{◌<◌, ℕ, List, IfOk, IfErr, IsErrOf, So
 ghost use Rattle.fv_base.specs.declared.role.Role.TheVariants.{Program as program_role};
 ghost use Rattle.fv_outside.specs.headline.Desk.{KeepsFaults};
 ghost use Rattle.fv_top_report.specs.declared.refusal.Refusal.TheVariants.{ReadFault};
-ghost use Rattle.fv_top_text.specs.headline.Program.{TextIs, delays_in};
-ghost use Rattle.fv_top_text.specs.Program.{IsProgram, IsOfText};
+ghost use Rattle.fv_top_program.specs.headline.Program.{TextIs, delays_in};
+ghost use Rattle.fv_top_program.specs.Program.{IsProgram, IsOfText};
 ghost use Rattle.fv_interval.specs.Delays.{AreAccepted};
 ghost use Rattle.fv_diagram.specs.Arena.{count_of};
-ghost use Rattle.fv_top_rack.specs.headline.Kinds.{FileIs};
-ghost use Rattle.fv_top_rack.specs.Kinds.{IsOfKind};
+ghost use Rattle.fv_top_program.specs.headline.Kinds.{FileIs};
+ghost use Rattle.fv_top_program.specs.Kinds.{IsOfKind};
 ghost use Rattle.fv_top.specs.headline.Promise.{HasNoProgram};
-ghost use Rattle.fv_top_text.specs.Compiled.{compiled_of};
+ghost use Rattle.fv_top_program.specs.Compiled.{compiled_of};
 ghost use Rattle.fv_top_files.specs.Loading.{ReadsFile, StopsLoading, IsFile};
 ghost use Rattle.fv_top.specs.inner.Loaded.{IsProgramOf};
 
@@ -20,10 +20,8 @@ use fv_eval::Program;
 use fv_interval::Delays;
 use fv_outside::{Desk, Role};
 use fv_top_files::{read_front, read_refusal};
-use fv_top_playable::{Playable, read_playable};
-use fv_top_rack::front_is_enough;
+use fv_top_program::{Playable, front_is_enough, read_playable, read_program};
 use fv_top_report::Refusal;
-use fv_top_text::read_program;
 use fv_top_words::ProgramKind;
 use std::alloc::Global;
 

@@ -16,7 +16,7 @@ use crate::make::run_make;
 use crate::play::play;
 use crate::prepare::prepare;
 use fv_outside::{Desk, Gate, Role};
-use fv_top_rack::one_file;
+use fv_top_program::one_file;
 use fv_top_report::{Refusal, Status, Tally, report_done, report_refusal};
 use fv_top_words::{Job, Run, job_in};
 use std::alloc::Global;

@@ -2,3 +2,4 @@ pub mod headline
 pub mod Made
 pub mod Examples
 pub mod Noises
+pub mod Voices

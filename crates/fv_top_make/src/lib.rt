@@ -1,4 +1,5 @@
-//! What `make` runs: the text of a program of so many voices, the noise that it hears, and the sum of what it gives.
+//! What `make` runs: the text of a program of so many voices, and which program that text is; the noise that it hears, and the sum of
+//! what it gives.
 #![tactic(auto)]
 
 ghost use Rattle.std.specs.Prelude.{◌≡◌, pos, ◌+ℤ◌, ◌*ℤ◌, IfOk};
@@ -7,11 +8,13 @@ ghost use Rattle.fv_top_make.specs.headline.Made.{next_state, text_of};
 ghost use Rattle.fv_top_make.specs.Made.{SumsAddUp};
 
 mod noise_tape;
+mod voices;
 
 use fv_num::{Op, apply};
 use itoa::Buffer;
 pub use noise_tape::{Noise, NoiseTape};
 use std::alloc::{AllocError, Global};
+pub use voices::voices_are_a_program;
 
 /// The text of a program of so many voices, two lines.
 pub fn text_of(alloc: Global, voices: u32) -> Result<Vec<u8>, AllocError>

@@ -2,14 +2,14 @@
 
 ghost use Rattle.std.specs.Prelude.{◌≡◌, ℕ, ℤ, pos, ◌+ℤ◌, ◌*◌, ◌+◌, ◌≤◌, List, length};
 ghost use Rattle.fv_num.specs.headline.Words.{wrap, shifted_right};
-ghost use Rattle.fv_tape.specs.Acts.{Act};
+ghost use Rattle.fv_outside.specs.Acts.{Act};
 ghost use Rattle.fv_top_make.specs.headline.Made.{noise_behind};
 ghost use Rattle.fv_top_make.specs.Made.{state_behind, sum_from};
 ghost use Rattle.fv_top_make.specs.Noises.{Sounds};
 
 use crate::{added, next_state};
 use fv_num::{Op, apply};
-use fv_tape::Tape;
+use fv_outside::Tape;
 use std::convert::Infallible;
 
 /// A noise that goes on, and the sum of what was given for it.

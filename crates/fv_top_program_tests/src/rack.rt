@@ -1,7 +1,7 @@
 // The command `rack`.
 
 use std::test::Fail;
-use test_gates::Meeting;
+use test_blocks::Meeting;
 use test_runs::{GAIN, Played, Silent, assert_all_play, assert_all_report, assert_plays};
 
 /// The words of a rack.

@@ -5,7 +5,7 @@ use std::alloc::Global;
 use std::sync::Wait;
 use std::test::Fail;
 use std::thread::Threads;
-use test_gates::Meeting;
+use test_blocks::Meeting;
 use test_runs::{
     Played, Row, Silent, THREE, TO_AU, WORDS, assert_all_end, assert_all_play, assert_all_report,
     assert_plays,

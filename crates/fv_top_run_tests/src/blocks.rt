@@ -8,7 +8,7 @@ use std::process::Abort;
 use std::sync::Wait;
 use std::test::Fail;
 use std::thread::Threads;
-use test_gates::{Counter, block_of};
+use test_blocks::{Counter, block_of};
 use test_runs::{BLOCKS_OF_FOUR, GAIN, Played, assert_plays, desk_of, tally_of};
 
 /// What is counted where nothing ran.

@@ -1,6 +1,6 @@
 // What is made, against values worked by hand.
 
-use fv_tape::Tape;
+use fv_outside::Tape;
 use fv_top_make::{Noise, NoiseTape, text_of};
 use std::test::Fail;
 

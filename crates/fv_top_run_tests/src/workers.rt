@@ -10,7 +10,7 @@ use std::process::Abort;
 use std::sync::Wait;
 use std::test::Fail;
 use std::thread::Threads;
-use test_gates::{Counter, Meeting, Until};
+use test_blocks::{Counter, Meeting, Until};
 use test_runs::{Played, assert_plays, desk_of, file_of, tally_of};
 
 static TWO_LOOPS: Played = (

@@ -18,8 +18,7 @@ use std::env;
 use std::marker::Sync;
 use std::sync::Wait;
 use std::thread::Threads;
-use test_blocks::{is_ordered, ran, random_tasks, tasks_with};
-use test_gates::Counter;
+use test_blocks::{Counter, is_ordered, ran, random_tasks, tasks_with};
 
 // The stream of all generators.
 const STREAM: u64 = 54;

@@ -3,7 +3,7 @@ use Rattle.std.specs.Prelude.{◌≡◌, ℕ, ◌<◌, ◌≤◌, List, length, 
 use Rattle.std.specs.Global.{Vec}
 use Rattle.fv_outside.specs.Tasks.{times}
 use Rattle.fv_split_plan.specs.headline.View.{PlanView}
-use Rattle.fv_engine_lanes.specs.Plans.{own_lanes}
+use Rattle.fv_engine_codes.specs.Plans.{own_lanes}
 
 -- each of these lanes has its place among them as its new number
 abbrev pub AreNumbered : (places lanes : List ℕ) → Type 0

@@ -1,7 +1,7 @@
 -- The lists that a block works in.
 use Rattle.std.specs.Prelude.{◌≡◌, ◌≤◌, [], length, vec_len}
 use Rattle.std.specs.Vec.{vec_capacity}
-use Rattle.fv_engine_spread.specs.Rooms.{AreRooms}
+use Rattle.fv_engine_crew.specs.Rooms.{AreRooms}
 use Rattle.fv_engine_crew.specs.declared.block.SpreadBlock.{SpreadBlock}
 use Rattle.fv_engine_crew.specs.declared.buffers.Buffers.{Buffers}
 use Rattle.fv_engine_crew.specs.Spread.{tasks_of}

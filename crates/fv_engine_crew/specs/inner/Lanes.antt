@@ -8,9 +8,9 @@ use Rattle.fv_lines.specs.Writer.{list_of, written_by}
 use Rattle.fv_lines.specs.declared.writer.LaneWriter.{LaneWriter}
 use Rattle.fv_engine_tasks.specs.headline.Block.{vectors_of}
 use Rattle.fv_engine_tasks.specs.Block.{Block, ObeysBlock, HoldUpTo, none_done, IsReal}
-use Rattle.fv_engine_lanes.specs.Lanes.{lane_open}
-use Rattle.fv_engine_parcels.specs.Contents.{SameWriter, block_of, tasks_in}
-use Rattle.fv_engine_parcels.specs.declared.start.Start.{Start}
+use Rattle.fv_engine_codes.specs.Lanes.{lane_open}
+use Rattle.fv_engine_crew.specs.Contents.{SameWriter, block_of, tasks_in}
+use Rattle.fv_engine_crew.specs.declared.start.Start.{Start}
 use Rattle.fv_engine_crew.specs.declared.block.SpreadBlock.{SpreadBlock}
 use Rattle.fv_engine_crew.specs.Spread.{block_in, tasks_of}
 

@@ -5,7 +5,7 @@ use Rattle.fv_outside.specs.Tasks.{task_count}
 use Rattle.fv_outside.specs.declared.gate.Line.{Line}
 use Rattle.fv_lines.specs.Solo.{AreHeld}
 use Rattle.fv_lines.specs.declared.shape.LaneShape.{LaneShape}
-use Rattle.fv_lines_cut.specs.Cut.{lengths_by}
+use Rattle.fv_lines.specs.Cut.{lengths_by}
 use Rattle.fv_split_plan.specs.Rows.{lists_of}
 use Rattle.fv_engine_crew.specs.declared.block.SpreadBlock.{SpreadBlock}
 use Rattle.fv_engine_crew.specs.declared.lent.Pack.{Pack}

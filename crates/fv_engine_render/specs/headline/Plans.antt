@@ -4,7 +4,7 @@ use Rattle.fv_num.specs.headline.Interval.{Interval}
 use Rattle.fv_diagram.specs.headline.Diagram.{Diagram, outputs}
 use Rattle.fv_signal.specs.headline.Value.{Graph, IsGraph}
 use Rattle.fv_propagate.specs.headline.Propagated.{NamesWithin, Propagates}
-use Rattle.fv_simplify.specs.Reducible.{AreShort}
+use Rattle.fv_simplify.specs.headline.Reducible.{AreShort}
 
 -- A finished graph that gives what the diagram gives, output by output, where the controls lie in these spans. It names only what
 -- the diagram has, and delays by no more than an engine keeps.

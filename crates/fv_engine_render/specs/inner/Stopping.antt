@@ -1,7 +1,7 @@
 -- How an engine's run over a tape stops (this project's profile).
 use Rattle.std.specs.Prelude.{◌≡◌, ℕ, ◌*◌, List, length, ℤ, Option}
 use Rattle.fv_outside.specs.headline.Journal.{Told}
-use Rattle.fv_tape.specs.Acts.{Act}
+use Rattle.fv_outside.specs.Acts.{Act}
 use Rattle.fv_control.specs.declared.script.Change.{Change}
 use Rattle.fv_control.specs.headline.Streams.{control_streams}
 use Rattle.fv_engine.specs.Stands.{EngineView}

@@ -5,7 +5,7 @@ use Rattle.std.proofs.lemmas.List.{length-replicate, get_or-replicate}
 use Rattle.fv_outside.specs.headline.Tasks.{Tasks, bit}
 use Rattle.fv_outside.specs.Tasks.{task_count}
 use Rattle.fv_graph.specs.Graph.{task_at, net_of}
-use Rattle.fv_graph_core.specs.Core.{opening}
+use Rattle.fv_graph.specs.Core.{opening}
 use Rattle.fv_loopcode.specs.headline.State.{State}
 use Rattle.fv_engine_tasks.specs.Block.{Block, none_done}
 use Rattle.fv_engine_tasks.specs.Jobs.{left_to_do}

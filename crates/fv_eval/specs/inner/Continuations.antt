@@ -19,10 +19,10 @@ use Rattle.fv_rules.specs.headline.Matching.{Bindings, chosen}
 use Rattle.fv_rules.specs.headline.Steps.{State, Outcome}
 use Rattle.fv_rules.specs.headline.Rules.{slider_kind, width}
 use Rattle.fv_eval_scopes.specs.Shows.{World, ShowsTree, Draws, ShowsValue, ShowsValues, ShowsEnv, ShowsTaken, IsNamed, IsInside, Grows, rules_in}
-use Rattle.fv_eval_machine.specs.Machine.{ForValue, Function, Argument, Leftover, Parameter, ForDiagram, Left, Right, Later, Negated, Ports, Binding, Turning}
-use Rattle.fv_eval_machine.specs.Machine.{Counting, Body, Finish, Continuation, Valued, Drawn, Visit, Call, Give, Config, Running, Ended}
-use Rattle.fv_eval_machine.specs.Machine.{meaning, begin, next_turned}
-use Rattle.fv_eval_machine.specs.Machine.{select}
+use Rattle.fv_rules.specs.Machine.{ForValue, Function, Argument, Leftover, Parameter, ForDiagram, Left, Right, Later, Negated, Ports, Binding, Turning}
+use Rattle.fv_rules.specs.Machine.{Counting, Body, Finish, Continuation, Valued, Drawn, Visit, Call, Give, Config, Running, Ended}
+use Rattle.fv_rules.specs.Machine.{meaning, begin, next_turned}
+use Rattle.fv_rules.specs.Machine.{select}
 use Rattle.fv_eval.specs.declared.continuation.Continuation as code_continuation
 use Rattle.fv_eval.specs.declared.continuation.Continuation.TheVariants as continuation
 use Rattle.fv_eval.specs.declared.continuation.ForValue as code_for_value
@@ -35,9 +35,9 @@ use Rattle.fv_eval.specs.declared.machine.Machine as code_machine
 use Rattle.fv_parse.specs.TreeId.{TreeId}
 use Rattle.fv_eval_scopes.specs.declared.value.Ruled.{Ruled}
 use Rattle.fv_eval_scopes.specs.declared.value.Binding as code_binding
-use Rattle.fv_eval_choosing.specs.Chosen.{ShowsChoice}
+use Rattle.fv_eval_lookup.specs.Chosen.{ShowsChoice}
 use Rattle.fv_eval_patterns.specs.Trials.{Recalls}
-use Rattle.fv_eval_choosing.specs.Shortcuts.{AreShortcuts}
+use Rattle.fv_eval_lookup.specs.Shortcuts.{AreShortcuts}
 use Rattle.fv_eval_scopes.specs.declared.value.Scope.{Scope as AScope}
 use Rattle.fv_eval_patterns.specs.Remembered.{nothing}
 

@@ -9,7 +9,7 @@ use Rattle.fv_diagram.specs.headline.Diagram.{Diagram, Constant}
 use Rattle.fv_diagram.specs.Arena.{Arena, count_of, tree_of, trees, tree_in as node_diagram}
 use Rattle.fv_eval_scopes.specs.declared.memo.Known.{Known}
 use Rattle.fv_eval_scopes.specs.declared.memo.Known.TheVariants as known
-use Rattle.fv_diagram_number.specs.headline.Numbers.{number_of}
+use Rattle.fv_diagram_numbers.specs.headline.Numbers.{number_of}
 use Rattle.fv_eval_scopes.specs.Memo.{Remembers, IsKnown, IsInteger, AddsIntegers}
 
 pub adds_none : (a : Arena) → AddsIntegers a a

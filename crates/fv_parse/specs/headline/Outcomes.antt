@@ -5,7 +5,7 @@ use Rattle.fv_lex.specs.declared.token.Symbol.{Symbol}
 use Rattle.fv_lex.specs.headline.Token.{Lexed, symbols_of}
 use Rattle.fv_parse_grammar.specs.headline.Tree.{Tree as Spelled}
 use Rattle.fv_parse_grammar.specs.headline.Grammar.{SpellsProgram}
-use Rattle.fv_parse_prefixes.specs.headline.Beginnings.{IsErrorPlace}
+use Rattle.fv_parse_grammar.specs.headline.Beginnings.{IsErrorPlace}
 use Rattle.fv_parse.specs.declared.refusal.ParseRefusal.{ParseRefusal}
 use Rattle.fv_parse.specs.declared.refusal.ParseRefusal.TheVariants as refusals
 use Rattle.fv_parse.specs.headline.Trees.{place_from}

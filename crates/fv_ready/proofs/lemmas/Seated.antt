@@ -16,16 +16,16 @@ use Rattle.fv_graph.specs.Graph.{pair_edge, pair_at, vector_of, loop_of, reader_
 use Rattle.fv_graph.specs.Words.{passing}
 use Rattle.fv_graph.proofs.lemmas.Graphs.{is_wires, further}
 use Rattle.fv_graph.proofs.lemmas.Counts.{bit_same, total_append}
-use Rattle.fv_ready_rule.specs.declared.Deed.TheVariants.{Stamped, Arrived, Saw, Claimed}
-use Rattle.fv_ready_rule.specs.declared.About.{About}
-use Rattle.fv_ready_rule.specs.declared.View.{View}
-use Rattle.fv_ready_rule.specs.Wired.{graph_wires}
-use Rattle.fv_ready_rule.specs.Rule.{noted, places, Each, Took, IsFresh, going, done_by, finishes, arrives}
-use Rattle.fv_ready_rule.specs.Shown.{OwesNothing}
-use Rattle.fv_ready_rule.specs.Carried.{slot_at, with_slot, but_slot, MayHold, IsFree, IsBusy, AreHanded, IsMine, HasKey}
-use Rattle.fv_ready_rule.proofs.lemmas.Hands.{free_owes, free_noted, free_mine, busy_noted, busy_mine, claim_busy}
-use Rattle.fv_ready_rule.proofs.lemmas.Hands.{exchange_busy, arrive_free, free_turned, finish_free, places_with}
-use Rattle.fv_ready_rule.proofs.lemmas.Leaving.{leads, parts, dropped}
+use Rattle.fv_ready.specs.declared.view.Deed.TheVariants.{Stamped, Arrived, Saw, Claimed}
+use Rattle.fv_ready.specs.declared.view.About.{About}
+use Rattle.fv_ready.specs.declared.view.View.{View}
+use Rattle.fv_ready.specs.Wired.{graph_wires}
+use Rattle.fv_ready.specs.Rule.{noted, places, Each, Took, IsFresh, going, done_by, finishes, arrives}
+use Rattle.fv_ready.specs.Shown.{OwesNothing}
+use Rattle.fv_ready.specs.Carried.{slot_at, with_slot, but_slot, MayHold, IsFree, IsBusy, AreHanded, IsMine, HasKey}
+use Rattle.fv_ready.proofs.lemmas.Hands.{free_owes, free_noted, free_mine, busy_noted, busy_mine, claim_busy}
+use Rattle.fv_ready.proofs.lemmas.Hands.{exchange_busy, arrive_free, free_turned, finish_free, places_with}
+use Rattle.fv_ready.proofs.lemmas.Leaving.{leads, parts, dropped}
 use Rattle.fv_ready.specs.declared.seat.InHand.{InHand}
 use Rattle.fv_ready.specs.declared.seat.WorkerSeat.{WorkerSeat}
 use Rattle.fv_ready.specs.declared.board.Board.{Board}

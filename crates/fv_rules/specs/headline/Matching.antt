@@ -10,7 +10,7 @@ use Rattle.fv_parse_grammar.specs.declared.form.Operator.TheVariants as operator
 use Rattle.fv_diagram.specs.headline.Diagram.{Diagram, Constant, Par, Seq, Split, Merge, Rec}
 use Rattle.fv_parse.specs.headline.Trees.{text_of}
 use Rattle.fv_rules.specs.headline.Values.{Name, Rule, Value, Flat, Env, Bound}
-use Rattle.fv_diagram_head.specs.Numbers.{number_of}
+use Rattle.fv_diagram_numbers.specs.headline.Numbers.{number_of}
 
 -- a diagram with a number as that integer
 abbrev pub number_or : Option ℤ → Diagram → Diagram

@@ -30,11 +30,11 @@ use Rattle.fv_rules.specs.declared.refusal.EvalRefusal.TheVariants.{UnknownName,
 use Rattle.fv_parse.specs.headline.Trees.{text_of, label_of}
 use Rattle.fv_rules.specs.headline.Values.{Name, Rule, Value, Flat, Abstraction, Rules, Env, Outermost, Bound, Scope, Nothing, And, Definition, Plain}
 use Rattle.fv_rules.specs.headline.Values.{Parameters, Cases, Meaning, IsValue, IsDefined, Unknown, lookup, rule_of, in_order, count_taken}
-use Rattle.fv_diagram_head.specs.Numbers.{number_of}
+use Rattle.fv_diagram_numbers.specs.headline.Numbers.{number_of}
 use Rattle.fv_rules.specs.headline.Matching.{Bindings, settled, value_number, bound_in, chosen}
 use Rattle.fv_rules.specs.headline.Steps.{State, Outcome, Eval, ◌>>=◌, give, refuse, no_number, no_rule}
 use Rattle.fv_rules.specs.headline.Steps.{no_diagram, visit, fresh_slots, put, waved, whole, control}
-pub use Rattle.fv_diagram_head.specs.headline.Heads.{all_outputs}
+pub use Rattle.fv_diagram_numbers.specs.headline.Heads.{all_outputs}
 
 -- ---- kinds of controls
 

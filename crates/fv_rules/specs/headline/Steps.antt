@@ -9,8 +9,8 @@ use Rattle.fv_arity.specs.declared.refusal.ArityKind.TheVariants as kind
 use Rattle.fv_diagram.specs.Words.{argument}
 use Rattle.fv_diagram.specs.Primitive.TheVariants as prim
 use Rattle.fv_diagram.specs.headline.Diagram.{Diagram, Primitive, Control, Wave, Table, Par, Seq, Split, Merge, Rec, size, inputs, outputs, has_table_primitive}
-use Rattle.fv_diagram_head.specs.Numbers.{at_first}
-use Rattle.fv_diagram_head.specs.headline.Heads.{parts, cut, is_head, table_numbers}
+use Rattle.fv_diagram_numbers.specs.headline.Numbers.{at_first}
+use Rattle.fv_diagram_numbers.specs.headline.Heads.{parts, cut, is_head, table_numbers}
 use Rattle.fv_rules.specs.declared.refusal.TableCause.TheVariants as cause
 use Rattle.fv_diagram.specs.declared.control.ControlInfo.{ControlInfo}
 use Rattle.fv_diagram.specs.declared.control.ControlKind.{ControlKind}

@@ -1,8 +1,8 @@
 -- What each run of the pass makes (this project's profile).
 use Rattle.std.specs.Prelude.{ℕ, List, Bool, Option}
 use Rattle.fv_signal.specs.headline.Value.{Graph, IsGraph}
-use Rattle.fv_simplify_rules.specs.Rebuilt.{IsMarked, IsRebuilt, IsRoom}
-use Rattle.fv_simplify_rules.specs.Simpler.{no_room}
+use Rattle.fv_simplify.specs.Rebuilt.{IsMarked, IsRebuilt, IsRoom}
+use Rattle.fv_simplify.specs.Simpler.{no_room}
 
 -- f is g with what numbers decide folded
 pub record Folds (g f : Graph) : Type 0 where

@@ -3,7 +3,7 @@ use Rattle.std.specs.Prelude.{ℕ, List, ℤ, pos, negsuc, Option, None, Some, m
 use Rattle.fv_signal.specs.declared.signal.Signal.{Signal}
 use Rattle.fv_signal.specs.declared.signal.Signal.TheVariants.{Input, Const, Control, Point, Delay, Back, Member, Read, Write}
 use Rattle.fv_signal.specs.headline.Value.{Graph}
-use Rattle.fv_simplify_rules.specs.Nodes.{number_at}
+use Rattle.fv_simplify.specs.Nodes.{number_at}
 
 -- the room where there is a delay more by this number, or by none
 abbrev pub room_with : Option ℕ → Option ℤ → Option ℕ

@@ -3,7 +3,7 @@ use Rattle.std.specs.Prelude.{◌≡◌, ℕ, ◌<◌, List, [], ◌∷◌, ◌+
 use Rattle.fv_signal.specs.declared.signal.Signal.{Signal}
 use Rattle.fv_signal.specs.declared.signal.Signal.TheVariants as signal
 use Rattle.fv_signal.specs.headline.Value.{Graph}
-use Rattle.fv_split_components.specs.headline.Reach.{at}
+use Rattle.fv_components.specs.headline.Reach.{at}
 use Rattle.fv_analysis.specs.headline.Stands.{node}
 use Rattle.fv_split_plan.specs.declared.lane.CellsInfo.{CellsInfo}
 use Rattle.fv_split_plan.specs.Separated.{IsWritten, cells_at}

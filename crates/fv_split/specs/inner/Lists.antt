@@ -1,7 +1,7 @@
 -- The lists of a plan: its lanes, the lanes of its outputs, and its codes.
 use Rattle.std.specs.Prelude.{◌≡◌, ℕ, ◌<◌, List, [], length, slice_index_or, Option, unwrap_or, Vec}
 use Rattle.std.specs.declared.alloc.Global.{Global}
-use Rattle.fv_split_components.specs.headline.Reach.{at}
+use Rattle.fv_components.specs.headline.Reach.{at}
 use Rattle.fv_loopcode.specs.declared.step.Step.{Step}
 use Rattle.fv_split_plan.specs.declared.lane.LaneInfo.{LaneInfo}
 use Rattle.fv_split_plan.specs.Separated.{lane_at}

@@ -10,9 +10,9 @@ use Rattle.fv_signal.specs.Words.{inputs_of}
 use Rattle.fv_signal.specs.declared.signal.Signal.{Signal}
 use Rattle.fv_signal.specs.declared.signal.Signal.TheVariants as signal
 use Rattle.fv_signal.specs.headline.Value.{Graph, definition, IsOrdered, IsGraph, OperandsBelow, NamesWithin}
-use Rattle.fv_split_components.specs.headline.Reach.{Links, at, Leads, Walk, Reaches}
-use Rattle.fv_split_components.specs.Reach.{next_of, AreLinks}
-use Rattle.fv_split_components.proofs.lemmas.Walks.{reaches_self, reaches_trans, reaches_step}
+use Rattle.fv_components.specs.headline.Reach.{Links, at, Leads, Walk, Reaches}
+use Rattle.fv_components.specs.Reach.{next_of, AreLinks}
+use Rattle.fv_components.proofs.lemmas.Walks.{reaches_self, reaches_trans, reaches_step}
 use Rattle.fv_analysis.specs.headline.Stands.{node, stand}
 use Rattle.fv_analysis.proofs.lemmas.StandLemmas.{standing, Itself, Another, stands_well}
 use Rattle.fv_split_plan.specs.headline.Separated.{operands, found_from, links_of, ReadsSignal}

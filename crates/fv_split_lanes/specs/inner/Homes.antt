@@ -1,6 +1,6 @@
 -- The loop in whose code each signal is computed.
 use Rattle.std.specs.Prelude.{◌≡◌, ◌⊎◌, ℕ, ◌<◌, ◌≤◌, List, [], ◌∷◌, length, slice_index_or, slice_set, Bool, true, false, if◌then◌else◌}
-use Rattle.fv_split_components.specs.headline.Reach.{Links, at, Leads, Reaches}
+use Rattle.fv_components.specs.headline.Reach.{Links, at, Leads, Reaches}
 
 -- the bit at a place
 abbrev pub bit_at : List Bool → ℕ → Bool

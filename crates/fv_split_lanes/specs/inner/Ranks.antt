@@ -1,6 +1,6 @@
 -- The numbers of loops: components that have a lane, counted from below.
 use Rattle.std.specs.Prelude.{◌≡◌, ◌↔◌, ℕ, zero, suc, ◌+◌, ◌<◌, ◌≤◌, List, [], ◌∷◌, length, Bool, true, if◌then◌else◌}
-use Rattle.fv_split_components.specs.headline.Reach.{Links, at, Reaches}
+use Rattle.fv_components.specs.headline.Reach.{Links, at, Reaches}
 use Rattle.fv_split_lanes.specs.inner.Homes.{bit_at}
 
 -- how many of the bits before a place are true

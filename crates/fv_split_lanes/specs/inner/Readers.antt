@@ -1,6 +1,6 @@
 -- Who reads each signal: none, one, or many.
 use Rattle.std.specs.Prelude.{◌≡◌, ◌≢◌, ℕ, ◌<◌, List, [], ◌∷◌, length, slice_index_or, slice_set, nat_eq, if◌then◌else◌}
-use Rattle.fv_split_components.specs.headline.Reach.{Links, Leads}
+use Rattle.fv_components.specs.headline.Reach.{Links, Leads}
 use Rattle.fv_split_lanes.specs.declared.reader.Reader.{Reader}
 use Rattle.fv_split_lanes.specs.declared.reader.Reader.TheVariants.{Nobody, One, Many}
 

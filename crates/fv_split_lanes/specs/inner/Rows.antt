@@ -1,8 +1,8 @@
 -- What each signal reads, row by row.
 use Rattle.std.specs.Prelude.{◌≡◌, ℕ, ◌<◌, List, [], length, map, nat_lt, if◌then◌else◌}
 use Rattle.fv_signal.specs.headline.Value.{Graph}
-use Rattle.fv_split_components.specs.headline.Reach.{Links}
-use Rattle.fv_split_components.specs.Reach.{next_of}
+use Rattle.fv_components.specs.headline.Reach.{Links}
+use Rattle.fv_components.specs.Reach.{next_of}
 use Rattle.fv_analysis.specs.headline.Stands.{node, stand}
 use Rattle.fv_split_plan.specs.headline.Separated.{operands}
 

@@ -4,7 +4,7 @@ use Rattle.std.specs.Prelude.{◌&&◌, nat_lt, nat_eq}
 use Rattle.std.proofs.lemmas.Bool.{and_parts, and_right, cases_eq, eq-eqb, eqb-true, ne_eqb, lt-ltb, ltb-true}
 use Rattle.fv_num.specs.headline.Frames.{column}
 use Rattle.fv_signal.specs.headline.Value.{Graph, value}
-use Rattle.fv_split_components.specs.headline.Reach.{at}
+use Rattle.fv_components.specs.headline.Reach.{at}
 use Rattle.fv_loopcode.specs.headline.Obeys.{Place, OfLane, OfCells}
 use Rattle.fv_loopcode.specs.Obeys.{IsAmong, ObeysAt, window}
 use Rattle.fv_loopcode.proofs.lemmas.Tasks.{tasks_are_done}

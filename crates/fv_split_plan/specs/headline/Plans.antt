@@ -6,7 +6,7 @@ use Rattle.fv_signal.specs.declared.signal.Signal.TheVariants as signal
 use Rattle.fv_signal.specs.declared.rate.Rate.TheVariants as rate
 use Rattle.fv_signal.specs.headline.Value.{Graph, value, IsGraph}
 use Rattle.fv_signal.specs.headline.Rates.{rate_of, NamesControl}
-use Rattle.fv_split_components.specs.headline.Reach.{at, Reaches}
+use Rattle.fv_components.specs.headline.Reach.{at, Reaches}
 use Rattle.fv_loopcode.specs.declared.step.Step.{Step}
 use Rattle.fv_loopcode.specs.declared.step.Step.TheVariants as step
 use Rattle.fv_loopcode.specs.headline.Code.{registers_after, NamesHeld, NamesInput, IsStill}

@@ -6,7 +6,7 @@ use Rattle.fv_signal.specs.declared.signal.Signal.TheVariants.{Input, Const, Con
 use Rattle.fv_signal.specs.declared.rate.Rate.TheVariants as rate
 use Rattle.fv_signal.specs.headline.Value.{Graph, members, definition}
 use Rattle.fv_signal.specs.headline.Rates.{rate_of}
-use Rattle.fv_split_components.specs.headline.Reach.{Links, at}
+use Rattle.fv_components.specs.headline.Reach.{Links, at}
 use Rattle.fv_analysis.specs.headline.Stands.{node, stand, StandsAt}
 
 -- the signals that a node reads

@@ -4,9 +4,9 @@ use Rattle.std.specs.Global.{Vec}
 use Rattle.fv_outside.specs.headline.Tasks.{Tasks}
 use Rattle.fv_outside.specs.Tasks.{task_count}
 use Rattle.fv_graph.specs.Graph.{net_of, inward, outward}
-use Rattle.fv_graph_core.specs.Core.{ready, dealt}
-use Rattle.fv_deque.specs.declared.handles.TaskDeque.{TaskDeque}
-use Rattle.fv_deque.specs.declared.handles.Victim.{Victim}
+use Rattle.fv_graph.specs.Core.{ready, dealt}
+use Rattle.fv_steal.specs.declared.handles.TaskDeque.{TaskDeque}
+use Rattle.fv_steal.specs.declared.handles.Victim.{Victim}
 use Rattle.fv_ready.specs.declared.seat.WorkerSeat.{WorkerSeat}
 use Rattle.fv_steal.specs.declared.part.Part.{Part}
 use Rattle.fv_steal.specs.declared.worker.Worker.{Worker}

@@ -2,7 +2,7 @@
 use Rattle.std.specs.Prelude.{◌≡◌, ℕ, ◌+◌, ◌<◌, List, length, All, get_or}
 use Rattle.fv_outside.specs.headline.Tasks.{Tasks, total}
 use Rattle.fv_outside.specs.Tasks.{times, task_count}
-use Rattle.fv_ready_rule.specs.Rule.{done_by, claims}
+use Rattle.fv_ready.specs.Rule.{done_by, claims}
 use Rattle.fv_ready.specs.declared.board.Board.{Board}
 use Rattle.fv_steal.specs.declared.worker.Worker.{Worker}
 use Rattle.fv_steal.specs.Crews.{did, took, own_account, IsWorkerOf, IsSame}

@@ -4,9 +4,9 @@ use Rattle.std.specs.Global.{Global, Vec}
 use Rattle.atomic_blocks.specs.Lent.{RowsId}
 use Rattle.fv_outside.specs.headline.Tasks.{bit, total}
 use Rattle.fv_outside.specs.Tasks.{times}
-use Rattle.fv_deque.specs.declared.handles.TaskDeque.{TaskDeque}
-use Rattle.fv_deque.specs.declared.handles.Victim.{Victim}
-use Rattle.fv_deque.specs.Deques.{account_of, room_of, lies_at, robs, taken_by}
+use Rattle.fv_steal.specs.declared.handles.TaskDeque.{TaskDeque}
+use Rattle.fv_steal.specs.declared.handles.Victim.{Victim}
+use Rattle.fv_steal.specs.Deques.{account_of, room_of, lies_at, robs, taken_by}
 
 -- what was put into the deques
 abbrev pub puts_of : List TaskDeque → List (List ℕ)

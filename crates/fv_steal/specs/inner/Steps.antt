@@ -2,11 +2,11 @@
 use Rattle.std.specs.Prelude.{◌≡◌, ℕ, ◌+◌, ◌<◌, List, Some, None}
 use Rattle.fv_outside.specs.Tasks.{times}
 use Rattle.fv_graph.specs.Net.{Net, need_count}
-use Rattle.fv_ready_rule.specs.declared.Deed.{Deed}
-use Rattle.fv_ready_rule.specs.declared.Deed.TheVariants.{Arrived, Saw}
-use Rattle.fv_ready_rule.specs.declared.View.{View}
-use Rattle.fv_ready_rule.specs.Rule.{done_by, arrives, zeroes}
-use Rattle.fv_ready_rule.specs.Carried.{slot_at}
+use Rattle.fv_ready.specs.declared.view.Deed.{Deed}
+use Rattle.fv_ready.specs.declared.view.Deed.TheVariants.{Arrived, Saw}
+use Rattle.fv_ready.specs.declared.view.View.{View}
+use Rattle.fv_ready.specs.Rule.{done_by, arrives, zeroes}
+use Rattle.fv_ready.specs.Carried.{slot_at}
 
 -- the slots of these edges are full, or empty
 abbrev pub AreFull : {C : Type 0} → List (ℕ × Rattle.std.specs.Prelude.Option C) → List ℕ → Type 0

@@ -3,10 +3,10 @@ use Rattle.std.specs.Prelude.{◌≡◌, ℕ, ◌+◌, ◌<◌, ◌==◌, map, O
 use Rattle.std.specs.Global.{Vec}
 use Rattle.fv_outside.specs.headline.Tasks.{Tasks, bit, total}
 use Rattle.fv_outside.specs.Tasks.{times, task_count}
-use Rattle.fv_ready_rule.specs.Rule.{done_by, claims}
+use Rattle.fv_ready.specs.Rule.{done_by, claims}
 use Rattle.fv_ready.specs.declared.board.Board.{Board}
-use Rattle.fv_deque.specs.declared.handles.Victim.{Victim}
-use Rattle.fv_deque.specs.Deques.{robs, taken_by}
+use Rattle.fv_steal.specs.declared.handles.Victim.{Victim}
+use Rattle.fv_steal.specs.Deques.{robs, taken_by}
 use Rattle.fv_steal.specs.declared.worker.Worker.{Worker}
 use Rattle.fv_steal.specs.Crews.{did, took, IsWorkerOf, IsSame}
 

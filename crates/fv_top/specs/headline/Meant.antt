@@ -10,9 +10,9 @@ use Rattle.fv_control.specs.headline.Streams.{control_streams}
 use Rattle.fv_diagram.specs.headline.Samples.{answer_on}
 use Rattle.fv_top_make.specs.headline.Made.{noise_of, sum_of}
 use Rattle.fv_top_report.specs.headline.Lines.{check_line, made_line, done_line}
-use Rattle.fv_top_text.specs.headline.Program.{delay_in}
+use Rattle.fv_top_program.specs.headline.Program.{delay_in}
 use Rattle.fv_engine_render.specs.headline.Render.{initial_of}
-use Rattle.fv_top_text.specs.headline.Compiled.{Compiled}
+use Rattle.fv_top_program.specs.headline.Compiled.{Compiled}
 
 -- the frames that it counts, the bytes of the output, if it writes one, and the line that it reports
 pub record Meant : Type 0 where

@@ -12,8 +12,8 @@ use Rattle.fv_top_words.specs.headline.Commands.{Job, Playing, Checking, Making}
 use Rattle.fv_top_report.specs.declared.refusal.Refusal.{Refusal}
 use Rattle.fv_top_report.specs.declared.refusal.Refusal.TheVariants.{WriteFault}
 use Rattle.fv_top_report.specs.declared.status.Tally.{Tally}
-use Rattle.fv_top_text.specs.headline.Compiled.{Compiled}
-use Rattle.fv_engine_files.specs.headline.Files.{IsCutAt}
+use Rattle.fv_top_program.specs.headline.Compiled.{Compiled}
+use Rattle.fv_engine_render.specs.headline.Files.{IsCutAt}
 use Rattle.fv_top_files.specs.headline.Output.{present_in}
 use Rattle.fv_top_files.specs.headline.Inputs.{truncated}
 use Rattle.fv_top.specs.headline.Promise.{Asks, Plays, IsMade}

@@ -19,12 +19,12 @@ use Rattle.fv_top_report.specs.declared.refusal.Refusal.{Refusal}
 use Rattle.fv_top_report.specs.declared.refusal.Refusal.TheVariants.{Usage, ReadFault, WriteFault, NoMemory}
 use Rattle.fv_top_report.specs.declared.status.Status.{Status}
 use Rattle.fv_top_report.specs.declared.status.Status.TheVariants.{Done, Refused}
-use Rattle.fv_top_text.specs.headline.Program.{TextIs}
-use Rattle.fv_top_rack.specs.headline.Kinds.{FileIs, is_of_kind}
+use Rattle.fv_top_program.specs.headline.Program.{TextIs}
+use Rattle.fv_top_program.specs.headline.Kinds.{FileIs, is_of_kind}
 use Rattle.fv_file_tape.specs.headline.Tapes.{HasBegun, KeepsOutput}
-use Rattle.fv_engine_files.specs.headline.Files.{IsCutAt}
+use Rattle.fv_engine_render.specs.headline.Files.{IsCutAt}
 use Rattle.fv_engine_render.specs.headline.Render.{initial_of}
-use Rattle.fv_top_text.specs.headline.Compiled.{Compiled}
+use Rattle.fv_top_program.specs.headline.Compiled.{Compiled}
 use Rattle.fv_top_files.specs.headline.Sources.{Source}
 use Rattle.fv_top_files.specs.headline.Output.{OutputFormat, coding_of, format_of, present_in, cut_in}
 use Rattle.fv_top_files.specs.headline.Inputs.{truncated}

@@ -2,10 +2,10 @@
 use Rattle.std.specs.Prelude.{ℕ, List, Ok}
 use Rattle.fv_outside.specs.headline.Desk.{DeskState}
 use Rattle.fv_top_words.specs.declared.manner.ProgramKind.{ProgramKind}
-use Rattle.fv_top_text.specs.headline.Compiled.{Compiled}
-use Rattle.fv_top_playable.specs.Playables.{IsPlayable}
-use Rattle.fv_top_rack.specs.headline.Kinds.{FileIs}
-use Rattle.fv_top_playable.specs.declared.playable.Playable.{Playable}
+use Rattle.fv_top_program.specs.headline.Compiled.{Compiled}
+use Rattle.fv_top_program.specs.Playables.{IsPlayable}
+use Rattle.fv_top_program.specs.headline.Kinds.{FileIs}
+use Rattle.fv_top_program.specs.declared.playable.Playable.{Playable}
 use Rattle.fv_top_files.specs.Loading.{IsFile}
 
 -- What is played is that of the file of this name.

@@ -2,7 +2,7 @@
 use Rattle.std.specs.Prelude.{ℕ, [], Option}
 use Rattle.fv_outside.specs.headline.Journal.{Told}
 use Rattle.fv_engine_render.specs.Render.{RanWhole}
-use Rattle.fv_top_text.specs.headline.Compiled.{Compiled}
+use Rattle.fv_top_program.specs.headline.Compiled.{Compiled}
 use Rattle.fv_top.specs.headline.Promise.{IsMade}
 use Rattle.fv_top.specs.headline.Played.{make_sizes}
 

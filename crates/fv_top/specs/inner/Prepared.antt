@@ -24,13 +24,13 @@ use Rattle.fv_file_tape.specs.declared.file_tape.FileTape.{FileTape}
 use Rattle.fv_file_tape.specs.declared.file_tape.OutputHead.{OutputHead}
 use Rattle.fv_file_tape.specs.declared.file_tape.Stop.{Stop}
 use Rattle.fv_file_tape.specs.declared.file_tape.Stop.TheVariants as stop
-use Rattle.fv_engine_files.specs.headline.Files.{IsCutAt}
-use Rattle.fv_engine_files.specs.Files.{HasTaken, IsStopFor, frames_of}
+use Rattle.fv_engine_render.specs.headline.Files.{IsCutAt}
+use Rattle.fv_engine_render.specs.Files.{HasTaken, IsStopFor, frames_of}
 use Rattle.fv_top_words.specs.headline.Runs.{Run, Settings}
 use Rattle.fv_top_report.specs.declared.refusal.Refusal.{Refusal}
 use Rattle.fv_top_report.specs.declared.refusal.Refusal.TheVariants.{ReadFault, WriteFault}
-use Rattle.fv_top_text.specs.headline.Compiled.{Compiled}
-use Rattle.fv_top_text.specs.Compiled.{CanPlay}
+use Rattle.fv_top_program.specs.headline.Compiled.{Compiled}
+use Rattle.fv_top_program.specs.Compiled.{CanPlay}
 use Rattle.fv_top_files.specs.declared.format.OutputFormat.{OutputFormat as Made}
 use Rattle.fv_top_files.specs.declared.incoming.Incoming.{Incoming}
 use Rattle.fv_top_files.specs.declared.input.Loaded.{Loaded}

@@ -13,8 +13,8 @@ use Rattle.fv_top_report.specs.declared.refusal.Refusal.{Refusal}
 use Rattle.fv_top_report.specs.declared.refusal.Refusal.TheVariants.{WriteFault}
 use Rattle.fv_top_files.specs.headline.Loading.{reading}
 use Rattle.fv_top.specs.headline.Meant.{check_meant, make_meant, made_sum, written_by}
-use Rattle.fv_top_text.specs.headline.Compiled.{Compiled}
-use Rattle.fv_top_text.specs.headline.Program.{TextIs}
+use Rattle.fv_top_program.specs.headline.Compiled.{Compiled}
+use Rattle.fv_top_program.specs.headline.Program.{TextIs}
 use Rattle.fv_top_report.specs.headline.Lines.{refused_line}
 use Rattle.fv_top.specs.headline.Stages.{Ends}
 use Rattle.fv_top.specs.headline.Promise.{HasProgram, Stage, ReadProgram, ReadScript, ReadHead, Fit, rules_of, stages_of}

@@ -3,7 +3,7 @@ use Rattle.fv_outside.specs.headline.Tasks.{reads_loop}
 use Rattle.fv_outside.specs.Tasks.{task_count}
 use Rattle.fv_outside.specs.declared.tasks.Reads.{Reads}
 use Rattle.fv_graph.specs.Graph.{ArePairs, edges_of}
-use Rattle.fv_graph_core.specs.Running.{Running}
+use Rattle.fv_graph.specs.Running.{Running}
 use Rattle.fv_engine.proofs.Made.{are_pairs}
 use Rattle.fv_engine.proofs.make.runner_for.Goals as goal
 

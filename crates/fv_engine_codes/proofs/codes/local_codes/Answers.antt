@@ -1,7 +1,7 @@
 use Rattle.std.proofs.Common.{rules, arith, ◌≡◌, ◌<◌, ◌+◌, ◌∙◌, inl, inr, [], ◌∷◌, length, slice_index_or, sym, subst}
 use Rattle.std.proofs.lemmas.Bool.{cases_eq}
 use Rattle.std.proofs.lemmas.List.{get_or_push, get_or_append_left}
-use Rattle.fv_engine_lanes.specs.Plans.{IsLocalCode}
+use Rattle.fv_engine_codes.specs.Plans.{IsLocalCode}
 use Rattle.fv_engine_codes.proofs.codes.local_codes.Goals as goal
 
 pub loop-j-preserved : goal.loop-j-preserved

@@ -1,5 +1,5 @@
 use Rattle.std.proofs.Common.{◌≡◌, ℕ, ◌<◌, ◌≤◌, [], length, slice_index_or, vec_len, vec_capacity}
-use Rattle.fv_engine_lanes.specs.Plans.{IsLocalCode}
+use Rattle.fv_engine_codes.specs.Plans.{IsLocalCode}
 use Rattle.fv_engine_codes.proofs.codes.local_codes.Given as goal
 
 abbrev pub invariant-loop-j : goal.invariant-loop-j

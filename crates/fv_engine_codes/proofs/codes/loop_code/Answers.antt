@@ -7,8 +7,8 @@ use Rattle.fv_loopcode.specs.declared.counts.Counts.{Counts}
 use Rattle.fv_loopcode.specs.Code.{NamesThere}
 use Rattle.fv_split_plan.specs.headline.View.{PlanView, code_of, roles_of}
 use Rattle.fv_split_plan.specs.Plans.{IsPlan}
-use Rattle.fv_engine_lanes.specs.Renumbered.{renumbered, HasPlace, Places}
-use Rattle.fv_engine_lanes.specs.Plans.{own_lanes, locals_of}
+use Rattle.fv_engine_codes.specs.Renumbered.{renumbered, HasPlace, Places}
+use Rattle.fv_engine_codes.specs.Plans.{own_lanes, locals_of}
 use Rattle.fv_engine_codes.proofs.Named.{HasRole, has_place, counts_of, names_placed, plan_roles}
 use Rattle.fv_engine_codes.proofs.Placing.{are_places}
 use Rattle.fv_engine_codes.proofs.codes.loop_code.Goals as goal

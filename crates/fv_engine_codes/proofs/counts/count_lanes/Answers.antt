@@ -2,7 +2,7 @@ use Rattle.std.proofs.Common.{◌≡◌, ◌<◌, ℕ, List, [], ◌∷◌, leng
 use Rattle.std.specs.Global.{Vec}
 use Rattle.std.proofs.lemmas.List.{length-append}
 use Rattle.fv_split_plan.specs.headline.View.{PlanView}
-use Rattle.fv_engine_lanes.specs.Plans.{own_lanes, sources_of, lanes_of_all}
+use Rattle.fv_engine_codes.specs.Plans.{own_lanes, sources_of, lanes_of_all}
 use Rattle.fv_engine_codes.proofs.counts.count_lanes.Goals as goal
 
 element : {X : Type 0} (xs : List X) (i : ℕ) → i < length xs → X

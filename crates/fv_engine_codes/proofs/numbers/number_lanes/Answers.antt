@@ -6,7 +6,7 @@ use Rattle.fv_outside.specs.headline.Tasks.{Tasks}
 use Rattle.fv_outside.specs.declared.tasks.Reads.{Reads}
 use Rattle.fv_graph.specs.Graph.{no_reads}
 use Rattle.fv_split_plan.specs.headline.View.{PlanView}
-use Rattle.fv_engine_lanes.specs.Plans.{own_lanes, sources_of}
+use Rattle.fv_engine_codes.specs.Plans.{own_lanes, sources_of}
 use Rattle.fv_engine_codes.specs.inner.Numbered.{AreNumbered, AreOnce}
 use Rattle.fv_engine_codes.proofs.Prefixes.{own_there, so_far, so_far_next, so_far_all, so_far_once, so_far_few}
 use Rattle.fv_engine_codes.proofs.Sources.{IsInto, at_into, length_into, source_there}

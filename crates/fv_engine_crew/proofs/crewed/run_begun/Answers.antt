@@ -8,11 +8,11 @@ use Rattle.fv_engine_crew.specs.inner.Lanes.{AreWhole}
 use denote.Param.Send.{sendable}
 use Rattle.fv_engine_tasks.specs.headline.Block.{vectors_of}
 use Rattle.fv_engine_tasks.specs.Block.{Block}
-use Rattle.fv_engine_parcels.specs.declared.start.Start.{Start}
+use Rattle.fv_engine_crew.specs.declared.start.Start.{Start}
 use Rattle.fv_engine_crew.specs.Spread.{block_in}
-use Rattle.fv_engine_spread.specs.Collected.{AreChainParcels, AreAllWriters, AreAllCells}
+use Rattle.fv_engine_crew.specs.Collected.{AreChainParcels, AreAllWriters, AreAllCells}
 use Rattle.fv_engine_crew.proofs.Sent.{parcel_send, body_sync}
-use Rattle.fv_engine_crew.proofs.Writers.{Started, whole, untouched, cells_untouched}
+use Rattle.fv_engine_crew.proofs.ReturnedWriters.{Started, whole, untouched, cells_untouched}
 use Rattle.fv_engine_crew.proofs.Crewing.{entries_are, exits_are}
 use Rattle.fv_engine_crew.proofs.crewed.run_begun.Given.{Over}
 use Rattle.fv_engine_crew.proofs.crewed.run_begun.Goals.{After-enter-body}

@@ -5,15 +5,15 @@ use Rattle.std.proofs.lemmas.List.{take_at}
 use Rattle.fv_split_plan.specs.headline.View.{PlanView}
 use Rattle.fv_lines.specs.Writer.{written_by}
 use Rattle.fv_lines.specs.declared.writer.LaneWriter.{LaneWriter}
-use Rattle.fv_engine_lanes.specs.declared.loop_cells.LoopCells.{LoopCells}
-use Rattle.fv_engine_parcels.specs.Contents.{tasks_in}
-use Rattle.fv_engine_parcels.specs.declared.start.Start.{Start}
-use Rattle.fv_engine_parcels.specs.declared.content.Writers.{Writers}
-use Rattle.fv_engine_spread.specs.Rooms.{AreRooms}
-use Rattle.fv_engine_spread.specs.Dealt.{AreDealt}
-use Rattle.fv_engine_spread.specs.Swapped.{HaveSlots, AreSwapped}
-use Rattle.fv_engine_spread.specs.Entries.{AreEntered}
-use Rattle.fv_engine_spread.specs.Opening.{IsOpening}
+use Rattle.fv_engine_codes.specs.declared.loop_cells.LoopCells.{LoopCells}
+use Rattle.fv_engine_crew.specs.Contents.{tasks_in}
+use Rattle.fv_engine_crew.specs.declared.start.Start.{Start}
+use Rattle.fv_engine_crew.specs.declared.content.Writers.{Writers}
+use Rattle.fv_engine_crew.specs.Rooms.{AreRooms}
+use Rattle.fv_engine_crew.specs.Dealt.{AreDealt}
+use Rattle.fv_engine_crew.specs.Swapped.{HaveSlots, AreSwapped}
+use Rattle.fv_engine_crew.specs.Entries.{AreEntered}
+use Rattle.fv_engine_crew.specs.Opening.{IsOpening}
 use Rattle.fv_engine_crew.specs.declared.block.SpreadBlock.{SpreadBlock}
 use Rattle.fv_engine_crew.specs.Spread.{tasks_of}
 use Rattle.fv_engine_crew.proofs.enter.enter.Goals.{After-deal}

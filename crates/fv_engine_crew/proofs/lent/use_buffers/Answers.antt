@@ -3,7 +3,7 @@ use base.Fml.{GName}
 use Rattle.fv_pool.specs.Uncut.{left_of, loan_of}
 use Rattle.fv_lines.specs.declared.shape.LaneState.{LaneState}
 use Rattle.fv_lines.specs.declared.writer.LaneWriter.{LaneWriter}
-use Rattle.fv_lines_cut.specs.Cut.{IsChain}
+use Rattle.fv_lines.specs.Cut.{IsChain}
 use Rattle.fv_engine_crew.specs.declared.block.SpreadBlock.{SpreadBlock}
 use Rattle.fv_engine_crew.specs.inner.Lanes.{AreSame}
 use Rattle.fv_engine_crew.proofs.Begun.{may_begin}

@@ -3,8 +3,8 @@ use Rattle.fv_loopcode.specs.headline.Lanes.{Lane}
 use Rattle.fv_lines.specs.Seen.{lane_seen}
 use Rattle.fv_lines.specs.declared.seen.Seen.{Seen}
 use Rattle.fv_engine_tasks.specs.Outputs.{CanRead}
-use Rattle.fv_engine_lanes.specs.declared.loop_cells.LoopCells.{LoopCells}
-use Rattle.fv_engine_lanes.specs.Lanes.{lane_open, lanes_in}
+use Rattle.fv_engine_codes.specs.declared.loop_cells.LoopCells.{LoopCells}
+use Rattle.fv_engine_codes.specs.Lanes.{lane_open, lanes_in}
 use Rattle.fv_engine_crew.proofs.whole.end_whole.Goals as goal
 
 pub copy_outputs-requires-clause-there : goal.copy_outputs-requires-clause-there

@@ -1,7 +1,7 @@
 use Rattle.std.proofs.Common.{[]}
-use Rattle.fv_join_diagrams.specs.Job.{Job}
-use Rattle.fv_join_diagrams.specs.OfParts.{AreOfParts}
-use Rattle.fv_join_diagrams.specs.headline.Parts.{Part, nothing}
+use Rattle.fv_compile.specs.declared.job.Job.{Job}
+use Rattle.fv_compile.specs.OfParts.{AreOfParts}
+use Rattle.fv_compile.specs.headline.Parts.{Part, nothing}
 use Rattle.fv_engine_render.proofs.laws.joined_is_graph.Goals as goal
 
 -- a job and a part, whatever they are

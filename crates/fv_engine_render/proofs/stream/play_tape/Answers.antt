@@ -4,7 +4,7 @@ use Rattle.std.specs.List.{AllByRecursion}
 use Rattle.std.proofs.Math.Seq.{length-take-le}
 use Rattle.fv_control.specs.declared.script.Change.{Change}
 use Rattle.fv_control.specs.headline.Streams.{control_streams}
-use Rattle.fv_tape.specs.Acts.{Hearing, Saying}
+use Rattle.fv_outside.specs.Acts.{Hearing, Saying}
 use Rattle.fv_split_plan.specs.Code.{NamesHeld}
 use Rattle.fv_engine.specs.Stands.{EngineView}
 use Rattle.fv_engine_render.specs.inner.Runs.{BlockBegins, PlaysAll}

@@ -1,10 +1,10 @@
 use Rattle.std.proofs.Common.{◌≡◌, ℕ, ◌<◌, true, sym, ◌∙◌, subst}
 use Rattle.fv_outside.specs.Tasks.{task_count}
 use Rattle.fv_graph.specs.Graph.{net_of}
-use Rattle.fv_graph_core.specs.Core.{after, is_legal, is_done}
-use Rattle.fv_graph_core.specs.Law.{AllLeft}
-use Rattle.fv_graph_core.specs.Running.{Running}
-use Rattle.fv_graph_core.specs.declared.event.Event.TheVariants.{Leave}
+use Rattle.fv_graph.specs.Core.{after, is_legal, is_done}
+use Rattle.fv_graph.specs.Law.{AllLeft}
+use Rattle.fv_graph.specs.Running.{Running}
+use Rattle.fv_graph.specs.declared.event.Event.TheVariants.{Leave}
 use Rattle.fv_engine_tasks.proofs.EventLemmas.{may_leave, left_all, where_ok}
 use Rattle.fv_engine_tasks.proofs.turns.leave.Goals as goal
 

@@ -1,9 +1,9 @@
 use Rattle.std.proofs.Common.{◌≡◌, sym, ◌∙◌, subst}
 use Rattle.fv_graph.specs.Graph.{net_of}
-use Rattle.fv_graph_core.specs.Core.{after}
-use Rattle.fv_graph_core.specs.Ready.{FindsReady}
-use Rattle.fv_graph_core.specs.Running.{Running}
-use Rattle.fv_graph_core.specs.declared.event.Event.TheVariants.{Take}
+use Rattle.fv_graph.specs.Core.{after}
+use Rattle.fv_graph.specs.Ready.{FindsReady}
+use Rattle.fv_graph.specs.Running.{Running}
+use Rattle.fv_graph.specs.declared.event.Event.TheVariants.{Take}
 use Rattle.fv_engine_tasks.specs.Events.{Runs}
 use Rattle.fv_engine_tasks.proofs.EventLemmas.{may_take, took, where_ok}
 use Rattle.fv_engine_tasks.proofs.turns.take.Goals as goal

@@ -9,7 +9,7 @@ use Rattle.fv_eval_scopes.specs.Shows.{parameters_in}
 use Rattle.fv_eval.specs.inner.Continuations.{ShowsName}
 use Rattle.fv_eval.proofs.Moves.{at_node}
 use Rattle.fv_eval.proofs.Others.{no_parameters}
-use Rattle.fv_eval_controls.proofs.lemmas.Entered.{get_within}
+use Rattle.fv_eval_drawing.proofs.lemmas.Entered.{get_within}
 use Rattle.fv_eval.proofs.Parameters.{parameter_named, parameter_none}
 use Rattle.fv_eval.proofs.names.parameter.Goals as goal
 

@@ -1,7 +1,7 @@
 use Rattle.std.proofs.Common.{◌≡◌, ℕ, ◌+◌, ◌-◌, ◌<◌, ◌≤◌, List, length, [], ◌++◌, Some, Option, vec_capacity, ap, sym, ◌∙◌, refl, subst, arith}
 use Rattle.std.specs.Global.{Vec}
 use Rattle.std.specs.Option.{option_to_list}
-use Rattle.fv_ready_rule.specs.Wired.{graph_wires}
+use Rattle.fv_ready.specs.Wired.{graph_wires}
 use Rattle.fv_ready.specs.Begun.{AreNewSeats, AreRoomy}
 use Rattle.fv_ready.proofs.Dealing.{deals_left, deals_right, deals_last, new_seat, splits_last, seats_snoc, last_roomy}
 use Rattle.fv_ready.proofs.begin.deal.Goals as goal

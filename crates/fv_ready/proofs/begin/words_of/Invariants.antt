@@ -1,6 +1,6 @@
 use Rattle.std.proofs.Common.{◌≡◌, ◌+◌, ◌≤◌, ◌∷◌, ◌++◌, map, replicate, vec_len, vec_capacity}
 use Rattle.fv_graph.specs.Graph.{net_of}
-use Rattle.fv_graph_core.specs.Core.{numbers}
+use Rattle.fv_graph.specs.Core.{numbers}
 use Rattle.fv_graph.specs.Net.{need_count}
 use Rattle.fv_ready.proofs.begin.words_of.Given as goal
 

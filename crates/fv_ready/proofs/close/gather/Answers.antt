@@ -3,10 +3,10 @@ use Rattle.std.specs.Option.{option_to_list}
 use Rattle.fv_graph.specs.Tasks.{bit}
 use Rattle.fv_graph.specs.TasksBeside.{times}
 use Rattle.fv_graph.proofs.lemmas.Counts.{total_append}
-use Rattle.fv_ready_rule.specs.Wired.{graph_wires}
-use Rattle.fv_ready_rule.specs.Rule.{done_by}
+use Rattle.fv_ready.specs.Wired.{graph_wires}
+use Rattle.fv_ready.specs.Rule.{done_by}
 use Rattle.fv_ready.specs.Closed.{AreSeats}
-use Rattle.fv_ready_rule.proofs.lemmas.Closing.{gives_back, whole_joins}
+use Rattle.fv_ready.proofs.lemmas.Closing.{gives_back, whole_joins}
 use Rattle.fv_graph.proofs.lemmas.Graphs.{is_wires}
 use Rattle.fv_ready.proofs.lemmas.Seated.{hand_mine}
 use Rattle.fv_ready.proofs.Emptying.{seats_front, told_snoc, having_snoc}

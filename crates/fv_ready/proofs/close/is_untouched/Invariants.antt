@@ -2,7 +2,7 @@ use Rattle.std.proofs.Common.{◌≡◌, ℕ, ◌<◌}
 use Rattle.std.specs.Slots.{slots_items}
 use mathlib.Core.Option.{some}
 use lib.ListN.{get_elem?}
-use Rattle.fv_ready_rule.specs.Rule.{claim_word}
+use Rattle.fv_ready.specs.Rule.{claim_word}
 use Rattle.fv_ready.proofs.close.is_untouched.Given as goal
 
 abbrev pub invariant-loop-t : goal.invariant-loop-t

@@ -1,5 +1,5 @@
 use Rattle.std.proofs.Common.{◌≡◌}
-use Rattle.fv_ready_rule.specs.inner.Spun.{spun}
+use Rattle.fv_ready.specs.inner.Spun.{spun}
 use Rattle.fv_ready.proofs.seat.spin.Given as goal
 
 abbrev pub invariant-loop-i : goal.invariant-loop-i

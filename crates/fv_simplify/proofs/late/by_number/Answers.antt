@@ -1,9 +1,9 @@
 use Rattle.std.proofs.Common.{◌≡◌, ◌+◌, ℕ, sym, ap, ◌∙◌, subst, if◌then◌else◌}
 use Rattle.std.specs.Prelude.{IfOk, nat_eq}
 use Rattle.fv_share.specs.Drafts.{Draft}
-use Rattle.fv_simplify_rules.specs.Rebuilt.{base}
+use Rattle.fv_simplify.specs.Rebuilt.{base}
 use Rattle.fv_simplify.specs.Passing.{so_far, late}
-use Rattle.fv_simplify_rules.proofs.lemmas.Totals.{differ}
+use Rattle.fv_simplify.proofs.lemmas.Totals.{differ}
 use Rattle.fv_simplify.proofs.late.by_number.Goals as goal
 
 same : (d : Draft) (x by : ℕ) (b c : ℕ × ℕ) → b ≡ c → (by ≡ 0 → ⊥)

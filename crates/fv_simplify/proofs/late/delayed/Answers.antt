@@ -2,8 +2,8 @@ use Rattle.std.proofs.Common.{rules, ◌≡◌, ℕ, ap, ◌∙◌, subst, ℤ, 
 use Rattle.std.specs.Prelude.{IfOk, Option}
 use Rattle.std.proofs.lemmas.Int.{to_z-of_z}
 use Rattle.fv_share.specs.Drafts.{Draft}
-use Rattle.fv_simplify_rules.specs.Nodes.{number_at}
-use Rattle.fv_simplify_rules.specs.Rebuilt.{back_by}
+use Rattle.fv_simplify.specs.Nodes.{number_at}
+use Rattle.fv_simplify.specs.Rebuilt.{back_by}
 use Rattle.fv_simplify.specs.Passing.{so_far, by_number, delayed_by, delayed}
 use Rattle.fv_simplify.proofs.late.delayed.Goals as goal
 

@@ -1,5 +1,5 @@
 use Rattle.std.proofs.Common.{◌<◌, ℕ, get_or}
-use Rattle.fv_simplify_rules.specs.Rebuilt.{IsMarked}
+use Rattle.fv_simplify.specs.Rebuilt.{IsMarked}
 use Rattle.fv_simplify.proofs.marks.all_are_marked.Given as goal
 
 abbrev pub invariant-loop-s : goal.invariant-loop-s

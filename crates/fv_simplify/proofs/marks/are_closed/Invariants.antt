@@ -1,7 +1,7 @@
 use Rattle.std.proofs.Common.{◌<◌, ℕ}
 use Rattle.fv_signal.specs.Value.{ReadsOnly}
-use Rattle.fv_simplify_rules.specs.Nodes.{node}
-use Rattle.fv_simplify_rules.specs.Rebuilt.{IsMarked}
+use Rattle.fv_simplify.specs.Nodes.{node}
+use Rattle.fv_simplify.specs.Rebuilt.{IsMarked}
 use Rattle.fv_simplify.proofs.marks.are_closed.Given as goal
 
 abbrev pub invariant-loop-place : goal.invariant-loop-place

@@ -1,9 +1,9 @@
 use Rattle.std.proofs.Common.{◌≡◌, ◌<◌, ℕ, length, take, get_or, sym, ap, ap₂, ◌∙◌, arith}
 use Rattle.std.proofs.lemmas.List.{get_or_default}
 use Rattle.fv_num.specs.headline.Words.{inputs_of}
-use Rattle.fv_simplify_rules.specs.Choices.{choice, pair}
-use Rattle.fv_simplify_rules.specs.Nodes.{number_at, known}
-use Rattle.fv_simplify_rules.proofs.lemmas.Choices.{choice_within}
+use Rattle.fv_simplify.specs.Choices.{choice, pair}
+use Rattle.fv_simplify.specs.Nodes.{number_at, known}
+use Rattle.fv_simplify.proofs.lemmas.Choices.{choice_within}
 use Rattle.fv_share.specs.Drafts.{Draft}
 use Rattle.fv_simplify.specs.Passing.{so_far, chosen}
 use Rattle.fv_simplify.proofs.Numbers.{known_pair, inputs_most}

@@ -3,7 +3,7 @@ use Rattle.std.specs.Option.{option_map}
 use Rattle.std.proofs.lemmas.Int.{to_z-of_z}
 use Rattle.std.proofs.lemmas.List.{get_or_default, length-set, get_or-set_same, get_or-set_other, get_or-take, length-take}
 use Rattle.fv_num.specs.headline.Words.{apply_of, inputs_of}
-use Rattle.fv_simplify_rules.specs.Nodes.{number_at, numbers}
+use Rattle.fv_simplify.specs.Nodes.{number_at, numbers}
 use Rattle.fv_simplify.specs.Passing.{so_far}
 use Rattle.fv_simplify.proofs.Numbers.{numbers_some, inputs_most}
 use Rattle.fv_simplify.proofs.operation.folded.Goals as goal

@@ -1,5 +1,5 @@
 use Rattle.std.proofs.Common.{◌≡◌, ◌<◌, ℕ, length, get_or, pos, Some}
-use Rattle.fv_simplify_rules.specs.Nodes.{number_at}
+use Rattle.fv_simplify.specs.Nodes.{number_at}
 use Rattle.fv_simplify.specs.Passing.{so_far}
 use Rattle.fv_simplify.proofs.operation.folded.Given as goal
 

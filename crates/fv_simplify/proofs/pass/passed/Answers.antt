@@ -1,7 +1,7 @@
 use Rattle.std.proofs.Common.{◌≡◌, ◌<◌, ℕ, List, [], ◌∷◌, ◌++◌, length, take, get_or, All, sym, ap, ◌∙◌, subst, arith, false}
 use Rattle.std.proofs.lemmas.List.{length-append}
 use Rattle.fv_share.specs.Drafts.{IsPending}
-use Rattle.fv_simplify_rules.specs.Nodes.{node}
+use Rattle.fv_simplify.specs.Nodes.{node}
 use Rattle.fv_simplify.specs.Passing.{room_in}
 use Rattle.fv_simplify.specs.Runs.{Pass, step, begun}
 use Rattle.fv_simplify.proofs.Along.{stepped}

@@ -1,7 +1,7 @@
 use Rattle.std.proofs.Common.{◌≡◌, ℕ, List, subst, sym}
 use Rattle.fv_signal.specs.headline.Value.{Graph, IsGraph}
 use Rattle.fv_share.specs.Drafts.{graph_of}
-use Rattle.fv_simplify_rules.specs.Rebuilt.{IsMarked, IsRebuilt}
+use Rattle.fv_simplify.specs.Rebuilt.{IsMarked, IsRebuilt}
 use Rattle.fv_simplify.specs.Passing.{room_in}
 use Rattle.fv_simplify.proofs.Closes.{both_ok}
 use Rattle.fv_simplify.proofs.pass.rebuild.Goals as goal

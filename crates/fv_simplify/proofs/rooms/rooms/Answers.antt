@@ -3,8 +3,8 @@ use Rattle.std.specs.Prelude.{Option}
 use Rattle.std.proofs.lemmas.List.{with_items_is}
 use Rattle.fv_signal.specs.declared.signal.Signal.TheVariants.{Const}
 use Rattle.fv_signal.specs.headline.Value.{OperandsBelow}
-use Rattle.fv_simplify_rules.specs.Nodes.{node}
-use Rattle.fv_simplify_rules.specs.Rebuilt.{IsRoom}
+use Rattle.fv_simplify.specs.Nodes.{node}
+use Rattle.fv_simplify.specs.Rebuilt.{IsRoom}
 use Rattle.fv_simplify.specs.Passing.{room_in}
 use Rattle.fv_simplify.specs.inner.Rooms.{rooms_after}
 use Rattle.fv_simplify.proofs.RoomLemmas.{Before, same_rooms, next_rooms, all_rooms}

@@ -1,5 +1,5 @@
 use Rattle.std.proofs.Common.{◌≡◌, length}
-use Rattle.fv_simplify_rules.specs.Rebuilt.{IsRoom}
+use Rattle.fv_simplify.specs.Rebuilt.{IsRoom}
 use Rattle.fv_simplify.specs.Passing.{room_in}
 use Rattle.fv_simplify.proofs.RoomLemmas.{Before}
 use Rattle.fv_simplify.proofs.rooms.rooms.Given as goal

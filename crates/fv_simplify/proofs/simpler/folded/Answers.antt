@@ -1,8 +1,8 @@
 use Rattle.std.proofs.lemmas.Result.{IfOk-weaker}
-use Rattle.fv_simplify_rules.specs.headline.Reducible.{AreShort}
-use Rattle.fv_simplify_rules.specs.Rebuilt.{IsMarked}
-use Rattle.fv_simplify_rules.specs.Simpler.{no_room}
-use Rattle.fv_simplify_rules.proofs.lemmas.Reaches.{short_kept}
+use Rattle.fv_simplify.specs.headline.Reducible.{AreShort}
+use Rattle.fv_simplify.specs.Rebuilt.{IsMarked}
+use Rattle.fv_simplify.specs.Simpler.{no_room}
+use Rattle.fv_simplify.proofs.lemmas.Reaches.{short_kept}
 use Rattle.fv_simplify.specs.inner.Once.{Folds}
 use Rattle.fv_simplify.proofs.simpler.folded.Goals as goal
 

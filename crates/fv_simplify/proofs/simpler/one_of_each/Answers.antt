@@ -1,6 +1,6 @@
 use Rattle.std.proofs.lemmas.Result.{IfOk-weaker}
-use Rattle.fv_simplify_rules.specs.headline.Reducible.{AreShort}
-use Rattle.fv_fold.specs.Kept.{KeepsAll}
+use Rattle.fv_simplify.specs.headline.Reducible.{AreShort}
+use Rattle.fv_simplify.specs.Kept.{KeepsAll}
 use Rattle.fv_simplify.proofs.simpler.one_of_each.Goals as goal
 
 pub returns-clause-short : goal.returns-clause-short

@@ -1,6 +1,6 @@
 use Rattle.std.proofs.lemmas.Result.{IfOk-weaker}
-use Rattle.fv_simplify_rules.specs.Reducible.{IsSimpler}
-use Rattle.fv_fold.specs.Kept.{KeepsAll}
+use Rattle.fv_simplify.specs.Reducible.{IsSimpler}
+use Rattle.fv_simplify.specs.Kept.{KeepsAll}
 use Rattle.fv_simplify.specs.inner.Once.{Folds, Joins}
 use Rattle.fv_simplify.proofs.Through.{simpler_through}
 use Rattle.fv_simplify.proofs.simpler.simplify.Goals as goal

@@ -3,7 +3,7 @@ use Rattle.std.proofs.lemmas.Bool.{cases_lt}
 use Rattle.std.proofs.lemmas.List.{get_or_read, with_items_is}
 use Rattle.fv_signal.specs.declared.signal.Signal.TheVariants.{Const}
 use Rattle.fv_signal.specs.headline.Value.{NamesWithin}
-use Rattle.fv_simplify_rules.specs.Nodes.{node}
+use Rattle.fv_simplify.specs.Nodes.{node}
 use Rattle.fv_simplify.specs.Passing.{HasWidth}
 use Rattle.fv_simplify.specs.Runs.{AreNamed}
 use Rattle.fv_simplify.proofs.WidthLemmas.{named_more}

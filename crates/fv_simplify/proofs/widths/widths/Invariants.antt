@@ -1,5 +1,5 @@
 use Rattle.std.proofs.Common.{◌≡◌, ◌<◌, ℕ, length}
-use Rattle.fv_simplify_rules.specs.Nodes.{node}
+use Rattle.fv_simplify.specs.Nodes.{node}
 use Rattle.fv_simplify.specs.Passing.{HasWidth}
 use Rattle.fv_simplify.specs.Runs.{AreNamed}
 use Rattle.fv_simplify.proofs.widths.widths.Given as goal

@@ -1,6 +1,6 @@
 use Rattle.std.proofs.Common.{ap, ◌∙◌, arith}
 use Rattle.fv_signal.specs.headline.Rates.{rate_at}
-use Rattle.fv_split_components.specs.headline.Reach.{at}
+use Rattle.fv_components.specs.headline.Reach.{at}
 use Rattle.fv_analysis.specs.headline.Stands.{node}
 use Rattle.fv_split_plan.proofs.lemmas.NodeLemmas.{node_read}
 use Rattle.fv_split.specs.inner.Bases.{base_of}

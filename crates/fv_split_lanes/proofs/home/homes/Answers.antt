@@ -1,7 +1,7 @@
 use Rattle.std.proofs.Common.{◌≡◌, ◌-◌, suc, sym, ◌∙◌, subst, ap, arith}
 use Rattle.std.proofs.lemmas.List.{get_or_read}
-use Rattle.fv_split_components.specs.Reach.{next_of}
-use Rattle.fv_split_components.specs.headline.Reach.{at}
+use Rattle.fv_components.specs.Reach.{next_of}
+use Rattle.fv_components.specs.headline.Reach.{at}
 use Rattle.fv_split_lanes.specs.inner.Homes.{bit_at, AreHomesFrom, given}
 use Rattle.fv_split_lanes.proofs.HomeLemmas.{row_lower, skips, gives}
 use Rattle.fv_split_lanes.proofs.home.homes.Goals as goal

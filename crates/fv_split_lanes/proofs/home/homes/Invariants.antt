@@ -1,5 +1,5 @@
 use Rattle.std.proofs.Common.{◌≤◌, length}
-use Rattle.fv_split_components.specs.Reach.{next_of}
+use Rattle.fv_components.specs.Reach.{next_of}
 use Rattle.fv_split_lanes.specs.inner.Homes.{bit_at, AreHomesFrom}
 use Rattle.fv_split_lanes.proofs.home.homes.Given as goal
 

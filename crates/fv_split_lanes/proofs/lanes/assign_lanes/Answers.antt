@@ -1,8 +1,8 @@
 use Rattle.std.proofs.Common.{[], length, sym, ap, ◌∙◌, subst, arith}
 use Rattle.fv_signal.specs.headline.Rates.{rate_in, rate_at}
 use Rattle.fv_signal.proofs.lemmas.Grown.{length_grown}
-use Rattle.fv_split_components.specs.headline.Reach.{at}
-use Rattle.fv_split_components.specs.Reach.{next_of}
+use Rattle.fv_components.specs.headline.Reach.{at}
+use Rattle.fv_components.specs.Reach.{next_of}
 use Rattle.fv_split_lanes.specs.inner.Rows.{reads_of}
 use Rattle.fv_split_lanes.specs.inner.Homes.{bit_at, AreLower, AreSingle, AreHomes}
 use Rattle.fv_split_lanes.specs.inner.Readers.{AreReaders}

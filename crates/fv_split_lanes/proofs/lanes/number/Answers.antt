@@ -1,5 +1,5 @@
 use Rattle.std.proofs.Common.{length, refl, subst}
-use Rattle.fv_split_components.specs.headline.Reach.{at}
+use Rattle.fv_components.specs.headline.Reach.{at}
 use Rattle.fv_split_lanes.specs.inner.Homes.{bit_at}
 use Rattle.fv_split_lanes.specs.inner.Numbered.{AddsSignal}
 use Rattle.fv_split_lanes.proofs.NumberLemmas.{signal_more}

@@ -1,7 +1,7 @@
 use Rattle.std.proofs.Common.{◌≡◌, ◌<◌, length, get_or, sym, subst, All}
 use Rattle.std.proofs.lemmas.List.{get_or_read}
 use Rattle.std.proofs.lemmas.List.Elements.{All-get_or}
-use Rattle.fv_split_components.specs.headline.Reach.{at}
+use Rattle.fv_components.specs.headline.Reach.{at}
 use Rattle.fv_split_lanes.specs.inner.Marked.{Marks, Named}
 use Rattle.fv_split_lanes.proofs.MarkLemmas.{marks_more}
 use Rattle.fv_split_lanes.proofs.mark.mark_named.Goals as goal

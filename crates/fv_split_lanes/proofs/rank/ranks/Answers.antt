@@ -1,6 +1,6 @@
 use Rattle.std.proofs.Common.{◌≡◌, ◌+◌, ◌≤◌, ℕ, length, ◌∙◌, subst, ap}
 use Rattle.std.proofs.lemmas.Result.{IfOk-weaker}
-use Rattle.fv_split_components.specs.headline.Reach.{at}
+use Rattle.fv_components.specs.headline.Reach.{at}
 use Rattle.fv_split_lanes.specs.inner.Ranks.{rank_of}
 use Rattle.fv_split_lanes.proofs.RankLemmas.{are_ranks}
 use Rattle.fv_split_lanes.proofs.rank.ranks.Goals as goal

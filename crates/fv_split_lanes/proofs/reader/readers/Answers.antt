@@ -1,5 +1,5 @@
 use Rattle.std.proofs.Common.{◌≡◌, ◌+◌, suc, length, ap, ◌∙◌, subst, arith}
-use Rattle.fv_split_components.specs.Reach.{next_of}
+use Rattle.fv_components.specs.Reach.{next_of}
 use Rattle.fv_split_lanes.specs.declared.reader.Reader.TheVariants.{Nobody}
 use Rattle.fv_split_lanes.specs.inner.Readers.{reader_at, AreReaders}
 use Rattle.fv_split_lanes.proofs.lemmas.RowLemmas.{each_same}

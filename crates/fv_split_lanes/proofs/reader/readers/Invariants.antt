@@ -1,5 +1,5 @@
 use Rattle.std.proofs.Common.{length}
-use Rattle.fv_split_components.specs.Reach.{next_of}
+use Rattle.fv_components.specs.Reach.{next_of}
 use Rattle.fv_split_lanes.specs.inner.Readers.{AreReaders}
 use Rattle.fv_split_lanes.proofs.reader.readers.Given as goal
 

@@ -1,5 +1,5 @@
 use Rattle.std.proofs.Common.{◌≤◌, length, map, sym, ap, ◌∙◌, arith}
-use Rattle.fv_split_components.specs.headline.Reach.{at}
+use Rattle.fv_components.specs.headline.Reach.{at}
 use Rattle.fv_analysis.specs.headline.Stands.{stand}
 use Rattle.fv_analysis.proofs.lemmas.StandLemmas.{stands_long}
 use Rattle.fv_split_plan.specs.headline.Separated.{operands}

@@ -2,7 +2,7 @@ use Rattle.std.proofs.Common.{◌≡◌, ap, ◌∙◌, subst, [], replicate, ve
 use Rattle.std.proofs.lemmas.Result.{IfOk-weaker}
 use Rattle.std.specs.Global.{Vec}
 use Rattle.fv_graph.specs.Graph.{net_of}
-use Rattle.fv_graph_core.specs.Core.{ready, dealt}
+use Rattle.fv_graph.specs.Core.{ready, dealt}
 use Rattle.fv_steal.specs.declared.part.Part.{Part}
 use Rattle.fv_steal.specs.inner.Made.{puts_of}
 use Rattle.fv_steal.specs.inner.Assembled.{AreParts, AreCrewParts}

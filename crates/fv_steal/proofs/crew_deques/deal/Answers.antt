@@ -4,10 +4,10 @@ use Rattle.fv_outside.specs.Tasks.{task_count}
 use Rattle.fv_graph.specs.Words.{passing}
 use Rattle.fv_graph.specs.Net.{need_count}
 use Rattle.fv_graph.specs.Graph.{net_of}
-use Rattle.fv_graph_core.specs.Core.{dealt}
-use Rattle.fv_graph_core.proofs.lemmas.Dealing.{dealt_next, one_of_two}
-use Rattle.fv_deque.specs.declared.handles.TaskDeque.{TaskDeque}
-use Rattle.fv_deque.specs.Deques.{account_of}
+use Rattle.fv_graph.specs.Core.{dealt}
+use Rattle.fv_graph.proofs.lemmas.Dealing.{dealt_next, one_of_two}
+use Rattle.fv_steal.specs.declared.handles.TaskDeque.{TaskDeque}
+use Rattle.fv_steal.specs.Deques.{account_of}
 use Rattle.fv_steal.specs.inner.Made.{puts_of}
 use Rattle.fv_steal.proofs.Deals.{rooms, fresh_after}
 use Rattle.fv_steal.proofs.crew_deques.deal.Goals as goal

@@ -3,7 +3,7 @@ use Rattle.fv_outside.specs.Tasks.{times, task_count}
 use Rattle.fv_graph.specs.Words.{passing}
 use Rattle.fv_graph.specs.Net.{need_count}
 use Rattle.fv_graph.specs.Graph.{net_of}
-use Rattle.fv_graph_core.specs.Core.{dealt, ready}
+use Rattle.fv_graph.specs.Core.{dealt, ready}
 use Rattle.fv_steal.specs.inner.Made.{puts_of, rests_of}
 use Rattle.fv_steal.proofs.crew_deques.deal.Given as goal
 

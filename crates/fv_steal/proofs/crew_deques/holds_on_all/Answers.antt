@@ -1,6 +1,6 @@
 use Rattle.std.proofs.Common.{length, set, subst, sym, ap, ◌∙◌, ◌+◌, ◌<◌, arith}
-use Rattle.fv_deque.specs.declared.handles.TaskDeque.{TaskDeque}
-use Rattle.fv_deque.specs.Deques.{account_of, lies_at}
+use Rattle.fv_steal.specs.declared.handles.TaskDeque.{TaskDeque}
+use Rattle.fv_steal.specs.Deques.{account_of, lies_at}
 use Rattle.fv_steal.specs.inner.Made.{HasLent}
 use Rattle.fv_steal.proofs.Deals.{one_lent}
 use Rattle.fv_steal.proofs.crew_deques.holds_on_all.Goals as goal

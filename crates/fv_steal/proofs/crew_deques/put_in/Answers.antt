@@ -1,10 +1,10 @@
 use Rattle.std.proofs.Common.{◌++◌, ◌∷◌, [], ◌<◌, refl, ◌∙◌, sym, ap, subst, arith}
 use Rattle.fv_outside.specs.Tasks.{times}
 use Rattle.fv_graph.proofs.lemmas.Counts.{get_map}
-use Rattle.fv_graph_core.proofs.lemmas.Places.{map_at, map_same}
-use Rattle.fv_deque.specs.declared.rule.Account.{Account}
-use Rattle.fv_deque.specs.declared.handles.TaskDeque.{TaskDeque}
-use Rattle.fv_deque.specs.Deques.{account_of}
+use Rattle.fv_graph.proofs.lemmas.Places.{map_at, map_same}
+use Rattle.fv_steal.specs.declared.rule.Account.{Account}
+use Rattle.fv_steal.specs.declared.handles.TaskDeque.{TaskDeque}
+use Rattle.fv_steal.specs.Deques.{account_of}
 use Rattle.fv_steal.specs.inner.Made.{rest_of}
 use Rattle.fv_steal.proofs.crew_deques.put_in.Goals as goal
 

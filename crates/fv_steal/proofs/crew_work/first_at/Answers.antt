@@ -1,6 +1,6 @@
 use Rattle.std.proofs.Common.{◌≡◌, ◌∙◌, ◌++◌, ◌∷◌, [], ap, refl, subst, arith, set, MatchOption}
-use Rattle.fv_deque.specs.declared.handles.Victim.{Victim}
-use Rattle.fv_deque.specs.Deques.{robs, taken_by}
+use Rattle.fv_steal.specs.declared.handles.Victim.{Victim}
+use Rattle.fv_steal.specs.Deques.{robs, taken_by}
 use Rattle.fv_steal.proofs.Boards.{stolen, map_set_same}
 use Rattle.fv_steal.proofs.crew_work.first_at.Goals as goal
 

@@ -1,8 +1,8 @@
 use Rattle.std.proofs.Common.{◌≡◌, ◌∙◌, ◌<◌, sym, subst, get_or, true, [], ◌∷◌}
 use Rattle.fv_graph.specs.Graph.{net_of, feeds_of}
-use Rattle.fv_ready_rule.specs.Rule.{done_by, finishes, arrives}
+use Rattle.fv_ready.specs.Rule.{done_by, finishes, arrives}
 use Rattle.fv_ready.specs.Seats.{view_of}
-use Rattle.fv_deque.specs.Deques.{account_of}
+use Rattle.fv_steal.specs.Deques.{account_of}
 use Rattle.fv_steal.specs.inner.Steps.{HasArrived}
 use Rattle.fv_steal.proofs.Boards.{low_in}
 use Rattle.fv_steal.proofs.Arrivals.{fed, arrived_more, next_owed, put_on}

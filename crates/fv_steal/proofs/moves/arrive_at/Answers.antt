@@ -1,10 +1,10 @@
 use Rattle.std.proofs.Common.{◌≡◌, ◌<◌, ap, sym, subst, eq-eqb, ne_eqb}
 use Rattle.fv_graph.specs.Graph.{Graph}
-use Rattle.fv_ready_rule.specs.Rule.{done_by, finishes, arrives}
+use Rattle.fv_ready.specs.Rule.{done_by, finishes, arrives}
 use Rattle.fv_graph.specs.Graph.{net_of, reader_of}
 use Rattle.fv_ready.specs.Seats.{view_of}
-use Rattle.fv_deque.specs.declared.rule.Account.{Account}
-use Rattle.fv_deque.specs.Deques.{account_of}
+use Rattle.fv_steal.specs.declared.rule.Account.{Account}
+use Rattle.fv_steal.specs.Deques.{account_of}
 use Rattle.fv_steal.proofs.Looks.{one_arrived}
 use Rattle.fv_steal.proofs.Boards.{fresh_put, pushed_more}
 use Rattle.fv_steal.proofs.Arrivals.{put_after, put_between, none_put}

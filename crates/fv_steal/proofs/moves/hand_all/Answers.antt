@@ -1,6 +1,6 @@
 use Rattle.std.proofs.Common.{◌≡◌, ◌∙◌, ap, sym, subst, get_or, take, drop, length, None, Some, arith}
 use Rattle.fv_graph.specs.Graph.{outward}
-use Rattle.fv_ready_rule.specs.Carried.{slot_at, with_slot}
+use Rattle.fv_ready.specs.Carried.{slot_at, with_slot}
 use Rattle.fv_ready.specs.Seats.{slots_of, hand_of}
 use Rattle.fv_ready.specs.Boards.{about_of}
 use Rattle.fv_steal.specs.Moves.{AreParcelsOf}

@@ -1,5 +1,5 @@
 use Rattle.std.proofs.Common.{ap, ◌∙◌}
-use Rattle.fv_ready_rule.specs.declared.View.{View}
+use Rattle.fv_ready.specs.declared.view.View.{View}
 use Rattle.fv_ready.specs.Seats.{view_of}
 use Rattle.fv_steal.proofs.Looks.{saw_ready, looked_more}
 use Rattle.fv_steal.proofs.moves.look.Goals as goal

@@ -1,6 +1,6 @@
 use Rattle.std.proofs.Common.{◌∙◌, ap, get_or, None}
 use Rattle.fv_graph.specs.Graph.{inward}
-use Rattle.fv_ready_rule.specs.Carried.{with_slot}
+use Rattle.fv_ready.specs.Carried.{with_slot}
 use Rattle.fv_ready.specs.Seats.{slots_of, hand_of}
 use Rattle.fv_ready.specs.Boards.{about_of}
 use Rattle.fv_steal.proofs.Boards.{edge_in, at_index, low_in, first_full}

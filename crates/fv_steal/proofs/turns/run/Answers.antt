@@ -1,8 +1,8 @@
 use Rattle.std.proofs.Common.{◌∙◌, ◌≤◌, ◌<◌, sym, subst, refl, length, ℕ, arith, vec_capacity}
 use Rattle.fv_outside.specs.headline.Tasks.{Tasks}
 use Rattle.fv_graph.specs.Graph.{inward, outward, task_at}
-use Rattle.fv_ready_rule.specs.Rule.{done_by, stamps}
-use Rattle.fv_ready_rule.specs.declared.View.{View}
+use Rattle.fv_ready.specs.Rule.{done_by, stamps}
+use Rattle.fv_ready.specs.declared.view.View.{View}
 use Rattle.fv_ready.specs.Seats.{view_of, slots_of}
 use Rattle.fv_ready.specs.Boards.{about_of}
 use Rattle.fv_steal.specs.Moves.{AreParcelsOf}

@@ -3,14 +3,14 @@ use Rattle.fv_outside.specs.Tasks.{times, task_count}
 use Rattle.fv_graph.specs.Graph.{Graph, net_of, feeds_of, task_of}
 use Rattle.fv_graph.specs.Wires.{IsWires, wires_of}
 use Rattle.fv_graph.proofs.lemmas.Counts.{bit_same}
-use Rattle.fv_ready_rule.specs.declared.View.{View}
-use Rattle.fv_ready_rule.specs.declared.Deed.TheVariants.{Stamped, Claimed}
-use Rattle.fv_ready_rule.specs.Rule.{done_by, noted, claims, finishes, arrives, zeroes}
+use Rattle.fv_ready.specs.declared.view.View.{View}
+use Rattle.fv_ready.specs.declared.view.Deed.TheVariants.{Stamped, Claimed}
+use Rattle.fv_ready.specs.Rule.{done_by, noted, claims, finishes, arrives, zeroes}
 use Rattle.fv_ready.specs.Seats.{view_of}
 use Rattle.fv_ready.specs.Boards.{name_of, about_of}
 use Rattle.fv_ready.proofs.lemmas.Seated.{told_graph}
 use Rattle.fv_ready.proofs.lemmas.Moving.{no_items}
-use Rattle.fv_deque.specs.Deques.{account_of}
+use Rattle.fv_steal.specs.Deques.{account_of}
 use Rattle.fv_steal.specs.inner.Steps.{HasArrived, PutBetween}
 use Rattle.fv_steal.proofs.Sums.{dealt_none}
 use Rattle.fv_steal.proofs.Turning.{IsTurn, claims_more, line_room}
@@ -74,8 +74,8 @@ pub arrive_all-requires-clause-put : goal.arrive_all-requires-clause-put
 arrive_all-requires-clause-put g c = λ x there needs.
     let w = c.args.worker.now in let a = about_of c.args.board.now in
     let p = told_is g.C.Parcel.edge_of g.C.Parcel.key_of c.args.board.now c.args.tasks.now c.requires.tasks in
-    let h = subst (λ (k : Graph). times x (Rattle.fv_deque.specs.Deques.account_of w.deque).put ≡
-    times x (Rattle.fv_graph_core.specs.Core.deque_of (Rattle.fv_graph_core.specs.Core.opening (net_of k.tasks) a.workers) w.number) + done_by (zeroes
+    let h = subst (λ (k : Graph). times x (Rattle.fv_steal.specs.Deques.account_of w.deque).put ≡
+    times x (Rattle.fv_graph.specs.Core.deque_of (Rattle.fv_graph.specs.Core.opening (net_of k.tasks) a.workers) w.number) + done_by (zeroes
     (net_of k.tasks) x) (view_of w.seat)) p (c.requires.worker.put x) in
     let n = net_of c.args.tasks.now.tasks in
     let z = dealt_none n a.workers w.number x there needs in

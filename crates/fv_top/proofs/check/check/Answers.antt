@@ -6,11 +6,11 @@ use Rattle.fv_diagram.specs.headline.Diagram.{inputs, outputs, size}
 use Rattle.fv_eval.specs.Evaluated.{Evaluated}
 use Rattle.fv_top_report.specs.headline.Lines.{check_line}
 use Rattle.fv_top.specs.headline.Meant.{check_meant}
-use Rattle.fv_top_text.specs.headline.Program.{TextIs}
-use Rattle.fv_top_text.specs.Program.{IsOfText}
+use Rattle.fv_top_program.specs.headline.Program.{TextIs}
+use Rattle.fv_top_program.specs.Program.{IsOfText}
 use Rattle.fv_top.specs.headline.Promise.{HasNoProgram}
 use Rattle.fv_base.specs.declared.role.Role.TheVariants.{Program}
-use Rattle.fv_top_text.specs.Compiled.{compiled_of}
+use Rattle.fv_top_program.specs.Compiled.{compiled_of}
 use Rattle.fv_top.proofs.Reaching.{FailsToLoad}
 use Rattle.fv_top.proofs.Checking.{check_stops, check_tells, check_done, numbers_same}
 use Rattle.fv_top.proofs.check.check.Given.{Over}

@@ -3,9 +3,9 @@ use Rattle.std.proofs.lemmas.Result.{err_from_is_err_and}
 use Rattle.fv_diagram.specs.headline.Diagram.{inputs}
 use Rattle.fv_top_make.specs.headline.Made.{text_of}
 use Rattle.fv_top_report.specs.declared.refusal.Refusal.TheVariants.{NoMemory}
-use Rattle.fv_top_text.specs.headline.Compiled.{Compiled}
-use Rattle.fv_top_rack.specs.headline.Kinds.{FileIs}
-use Rattle.fv_top_rack.specs.Kinds.{IsOfKind}
+use Rattle.fv_top_program.specs.headline.Compiled.{Compiled}
+use Rattle.fv_top_program.specs.headline.Kinds.{FileIs}
+use Rattle.fv_top_program.specs.Kinds.{IsOfKind}
 use Rattle.fv_top_words.specs.declared.manner.ProgramKind.TheVariants.{Alone}
 use Rattle.fv_top.specs.headline.Promise.{IsMade}
 use Rattle.fv_top.proofs.Making.{only_memory}

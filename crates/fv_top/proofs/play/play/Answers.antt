@@ -8,7 +8,7 @@ use Rattle.fv_control.specs.headline.Streams.{control_streams}
 use Rattle.fv_control.specs.declared.script.Change.{Change}
 use Rattle.fv_diagram.specs.Controls.{IsBounded}
 use Rattle.fv_diagram.specs.declared.control.ControlInfo.{ControlInfo}
-use Rattle.fv_engine_files.specs.Files.{HasPlayed, StopsAt}
+use Rattle.fv_engine_render.specs.Files.{HasPlayed, StopsAt}
 use Rattle.fv_engine_render.specs.headline.Render.{RanTo, initial_of}
 use Rattle.fv_engine_render.specs.Render.{RanWhole}
 use Rattle.fv_engine_render.specs.Stops.{IsSetFor, IsSetToPlay}
@@ -18,7 +18,7 @@ use Rattle.fv_file_tape.specs.Tapes.{files_of}
 use Rattle.fv_file_tape.specs.declared.file_tape.OutputHead.{OutputHead}
 use Rattle.fv_file_tape.specs.declared.file_tape.Stop.{Stop}
 use Rattle.fv_file_tape.specs.declared.file_tape.Stop.TheVariants as stop
-use Rattle.fv_top_text.specs.headline.Compiled.{Compiled}
+use Rattle.fv_top_program.specs.headline.Compiled.{Compiled}
 use Rattle.fv_top.specs.declared.prepare.Prepared.{Prepared}
 use Rattle.fv_top.specs.inner.Prepared.{CanRun, refusal_of_stop}
 use Rattle.fv_top.proofs.Playing.{run_whole, pad_stops, files_stop}

@@ -12,9 +12,9 @@ use Rattle.fv_top_words.specs.Views.{run_in as run_view}
 use Rattle.fv_top_report.specs.declared.refusal.Refusal.{Refusal}
 use Rattle.fv_top_files.specs.headline.Loading.{HasScript, HasInput}
 use Rattle.fv_top_files.specs.Loading.{StopsLoading, IsHeadRefusal}
-use Rattle.fv_top_text.specs.headline.Compiled.{Compiled}
-use Rattle.fv_top_rack.specs.headline.Kinds.{FileIs}
-use Rattle.fv_top_rack.specs.Kinds.{IsOfKind}
+use Rattle.fv_top_program.specs.headline.Compiled.{Compiled}
+use Rattle.fv_top_program.specs.headline.Kinds.{FileIs}
+use Rattle.fv_top_program.specs.Kinds.{IsOfKind}
 use Rattle.fv_top_files.specs.Formats.{format_in}
 use Rattle.fv_top_files.specs.Loaded.{held_in}
 use Rattle.fv_pcm.specs.declared.coding.Coding.{Coding}

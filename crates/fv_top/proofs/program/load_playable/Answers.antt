@@ -2,8 +2,8 @@ use Rattle.std.proofs.Common.{◌∙◌, ap, Some, Err}
 use Rattle.std.proofs.lemmas.Result.{err_from_is_err_and}
 use Rattle.fv_base.specs.declared.role.Role.TheVariants.{Program}
 use Rattle.fv_top_report.specs.declared.refusal.Refusal.{Refusal}
-use Rattle.fv_top_rack.specs.headline.Kinds.{FileIs}
-use Rattle.fv_top_rack.specs.Kinds.{IsOfKind}
+use Rattle.fv_top_program.specs.headline.Kinds.{FileIs}
+use Rattle.fv_top_program.specs.Kinds.{IsOfKind}
 use Rattle.fv_top.specs.headline.Promise.{HasNoProgram}
 use Rattle.fv_top_files.proofs.lemmas.Loads.{stops_refused}
 use Rattle.fv_top.proofs.program.load_playable.Goals as goal

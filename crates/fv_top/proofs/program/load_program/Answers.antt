@@ -2,8 +2,8 @@ use Rattle.std.proofs.Common.{◌∙◌, ap, Some}
 use Rattle.std.proofs.lemmas.Result.{err_from_is_err_and}
 use Rattle.fv_base.specs.declared.role.Role.TheVariants.{Program}
 use Rattle.fv_top_words.specs.declared.manner.ProgramKind.TheVariants.{Alone}
-use Rattle.fv_top_text.specs.headline.Program.{TextIs}
-use Rattle.fv_top_text.specs.Program.{IsRefusedText, IsOfText}
+use Rattle.fv_top_program.specs.headline.Program.{TextIs}
+use Rattle.fv_top_program.specs.Program.{IsRefusedText, IsOfText}
 use Rattle.fv_top.specs.headline.Promise.{HasNoProgram}
 use Rattle.fv_top_files.proofs.lemmas.Loads.{stops_refused}
 use Rattle.fv_top.proofs.program.load_program.Goals as goal

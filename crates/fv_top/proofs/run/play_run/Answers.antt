@@ -4,7 +4,7 @@ use Rattle.fv_base.specs.declared.role.Role.TheVariants.{Output}
 use Rattle.fv_top_words.specs.headline.Commands.{Playing}
 use Rattle.fv_top_words.specs.Views.{run_in as run_view}
 use Rattle.fv_top_report.specs.declared.refusal.Refusal.{Refusal}
-use Rattle.fv_top_text.specs.headline.Compiled.{Compiled}
+use Rattle.fv_top_program.specs.headline.Compiled.{Compiled}
 use Rattle.fv_top.specs.headline.Promise.{Asks}
 use Rattle.fv_top.specs.headline.Played.{RanSoFar}
 use Rattle.fv_top.specs.inner.Running.{Stopped}

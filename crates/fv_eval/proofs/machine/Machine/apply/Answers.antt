@@ -2,7 +2,7 @@ use Rattle.std.proofs.Common.{◌≤◌, ◌<◌, length, refl, subst, arith}
 use Rattle.std.specs.Prelude.{Option}
 use Rattle.fv_eval_scopes.specs.declared.value.Value as code_value
 use Rattle.fv_eval.proofs.Applying.{all_taken, applies_on, arguments_shown, function_shown, function_stays, last_taken}
-use Rattle.fv_eval_controls.proofs.lemmas.Entered.{get_within}
+use Rattle.fv_eval_drawing.proofs.lemmas.Entered.{get_within}
 use Rattle.fv_eval.proofs.Taking.{Takes}
 use Rattle.fv_eval.proofs.machine.Machine.apply.Goals as goal
 

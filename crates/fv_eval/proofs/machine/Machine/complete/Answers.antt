@@ -4,7 +4,7 @@ use Rattle.fv_eval_scopes.specs.declared.value.Value as code_value
 use Rattle.fv_eval_scopes.specs.declared.value.Value.TheVariants as value
 use Rattle.fv_eval.specs.inner.Continuations.{Completes, IsShown, world}
 use Rattle.fv_eval.proofs.Completing.{abstraction_completes, diagram_completes, first_shown, rules_complete, rules_inside, rules_took}
-use Rattle.fv_eval_controls.proofs.lemmas.Entered.{get_within}
+use Rattle.fv_eval_drawing.proofs.lemmas.Entered.{get_within}
 use Rattle.fv_eval.proofs.Taking.{bound_below, name_is_there}
 use Rattle.fv_eval.proofs.machine.Machine.complete.Goals as goal
 

@@ -7,7 +7,7 @@ use Rattle.fv_parse_grammar.specs.headline.Tree as tree
 use Rattle.fv_parse_grammar.specs.headline.Tree.{items}
 use Rattle.fv_eval.proofs.Applying.{below_list, next_applies, next_waits}
 use Rattle.fv_eval.proofs.Arrived.{Argues}
-use Rattle.fv_eval_controls.proofs.lemmas.Entered.{get_within}
+use Rattle.fv_eval_drawing.proofs.lemmas.Entered.{get_within}
 use Rattle.fv_eval.proofs.Forms.{is_no_other_application}
 use Rattle.fv_eval.proofs.machine.Machine.next_argument.Goals as goal
 

@@ -1,6 +1,6 @@
 use Rattle.std.proofs.Common.{refl}
 use Rattle.std.proofs.lemmas.Option.{slice_get_past}
-use Rattle.fv_eval_controls.proofs.lemmas.Entered.{get_within}
+use Rattle.fv_eval_drawing.proofs.lemmas.Entered.{get_within}
 use Rattle.fv_eval.proofs.Received.{feeds_all, next_turns}
 use Rattle.fv_eval.proofs.machine.Machine.next_turned.Goals as goal
 

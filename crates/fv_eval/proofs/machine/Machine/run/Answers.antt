@@ -1,6 +1,6 @@
 use Rattle.std.proofs.Common.{Result, Ok, ap, subst, ◌∙◌}
 use Rattle.fv_rules.specs.declared.refusal.EvalRefusal.{EvalRefusal}
-use Rattle.fv_eval_machine.specs.Machine.{step}
+use Rattle.fv_rules.specs.Machine.{step}
 use Rattle.fv_eval.specs.declared.continuation.Focus.{Focus}
 use Rattle.fv_eval.specs.inner.Continuations.{Continues, Goes}
 use Rattle.fv_eval.proofs.Runs.{goes_on, run_done, run_refused}

@@ -1,7 +1,7 @@
 use Rattle.std.proofs.Common.{refl, subst}
 use Rattle.std.specs.Prelude.{IfOk}
 use Rattle.fv_rules.specs.headline.Matching.{number_or}
-use Rattle.fv_diagram_head.specs.Numbers.{number_of}
+use Rattle.fv_diagram_numbers.specs.headline.Numbers.{number_of}
 use Rattle.fv_diagram.specs.Arena.{Arena, tree_of}
 use Rattle.fv_eval_drawing.specs.Makes.{AddsDiagrams, Canvas, Draws}
 use Rattle.fv_eval_drawing.proofs.Remembered.{adds_extends, adds_composed, settled_draws}

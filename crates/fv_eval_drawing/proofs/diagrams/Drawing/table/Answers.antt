@@ -1,7 +1,7 @@
 use Rattle.std.proofs.Common.{◌≡◌, ◌∙◌, true, ap, sym, subst}
 use Rattle.fv_diagram.specs.headline.Diagram.{Diagram}
 use Rattle.fv_diagram.specs.Arena.{tree_of}
-use Rattle.fv_diagram_head.specs.headline.Heads.{is_head}
+use Rattle.fv_diagram_numbers.specs.headline.Heads.{is_head}
 use Rattle.fv_rules.specs.headline.Steps.{Eval}
 use Rattle.fv_eval_drawing.specs.Makes.{Makes, trees_of}
 use Rattle.fv_eval_drawing.proofs.Tabling.{rest_takes, tabled_stands}

@@ -3,7 +3,7 @@ use Rattle.std.proofs.lemmas.Int.{ints}
 use Rattle.std.proofs.lemmas.Result.{err_from_is_err_and}
 use Rattle.fv_diagram.specs.headline.Diagram.{Seq, Table, outputs}
 use Rattle.fv_diagram.specs.Arena.{tree_of}
-use Rattle.fv_diagram_head.specs.headline.Heads.{all_outputs, is_fixed, table_numbers}
+use Rattle.fv_diagram_numbers.specs.headline.Heads.{all_outputs, is_fixed, table_numbers}
 use Rattle.fv_rules.specs.declared.refusal.EvalRefusal.{EvalRefusal}
 use Rattle.fv_rules.specs.headline.Steps.{sized, tabled_by}
 use Rattle.fv_eval_drawing.specs.declared.lists.Link.TheVariants as link

@@ -4,13 +4,13 @@ use Rattle.atomic_table.specs.Table.{Allows, step, rest}
 use Rattle.fv_graph.specs.TasksBeside.{times}
 use Rattle.fv_graph.specs.Graph.{Graph, reader_of}
 use Rattle.fv_graph.proofs.lemmas.Graphs.{is_wires}
-use Rattle.fv_ready_rule.specs.Wired.{graph_wires}
-use Rattle.fv_ready_rule.specs.Rule.{Gives, front_edge, noted, zeroes, done_by}
-use Rattle.fv_ready_rule.specs.inner.Spun.{spun}
-use Rattle.fv_ready_rule.specs.Carried.{but_slot}
-use Rattle.fv_ready_rule.specs.Whole.{IsWhole}
-use Rattle.fv_ready_rule.specs.declared.Deed.TheVariants.{Arrived}
-use Rattle.fv_ready_rule.proofs.lemmas.Arriving.{arriving}
+use Rattle.fv_ready.specs.Wired.{graph_wires}
+use Rattle.fv_ready.specs.Rule.{Gives, front_edge, noted, zeroes, done_by}
+use Rattle.fv_ready.specs.inner.Spun.{spun}
+use Rattle.fv_ready.specs.Carried.{but_slot}
+use Rattle.fv_ready.specs.Whole.{IsWhole}
+use Rattle.fv_ready.specs.declared.view.Deed.TheVariants.{Arrived}
+use Rattle.fv_ready.proofs.lemmas.Arriving.{arriving}
 use Rattle.fv_ready.proofs.Found.{at_place, placed, in_front, long_items, back_but, mirror_but}
 use Rattle.fv_ready.proofs.lemmas.Seated.{told_graph, owes_of, inner_fits, hand_none, free_front, hand_arrived, seat_after}
 use Rattle.fv_ready.proofs.board.Board.arrive.Goals as goal

@@ -1,6 +1,6 @@
 use Rattle.std.proofs.Common.{◌≡◌, ◌+◌, ◌*◌, length, vec_len, ap, sym, ◌∙◌, arith, None}
 use Rattle.fv_graph.specs.Graph.{Graph, net_of, edges_of}
-use Rattle.fv_graph_core.proofs.lemmas.Opens.{length_same}
+use Rattle.fv_graph.proofs.lemmas.Opens.{length_same}
 use Rattle.fv_ready.specs.Begun.{first_slots, parcels_of}
 use Rattle.fv_ready.proofs.Laying.{begins_so, key_is, words_long, slots_long}
 use Rattle.fv_ready.proofs.lemmas.Moving.{parcels_first}

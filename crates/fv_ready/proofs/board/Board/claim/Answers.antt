@@ -2,12 +2,12 @@ use Rattle.std.proofs.Common.{◌≡◌, ◌+◌, ◌==◌, [], ◌++◌, true, 
 use Rattle.fv_graph.specs.TasksBeside.{task_count}
 use Rattle.fv_graph.specs.Graph.{Graph, edges_of, inward, outward}
 use Rattle.fv_graph.proofs.lemmas.Graphs.{is_wires}
-use Rattle.fv_ready_rule.specs.Wired.{graph_wires}
-use Rattle.fv_ready_rule.specs.Rule.{noted, places}
-use Rattle.fv_ready_rule.specs.Carried.{IsFree}
-use Rattle.fv_ready_rule.specs.declared.Deed.TheVariants.{Claimed}
-use Rattle.fv_ready_rule.proofs.lemmas.Claim.{tell}
-use Rattle.fv_ready_rule.proofs.lemmas.Claims.{claims_whole_at}
+use Rattle.fv_ready.specs.Wired.{graph_wires}
+use Rattle.fv_ready.specs.Rule.{noted, places}
+use Rattle.fv_ready.specs.Carried.{IsFree}
+use Rattle.fv_ready.specs.declared.view.Deed.TheVariants.{Claimed}
+use Rattle.fv_ready.proofs.lemmas.Claim.{tell}
+use Rattle.fv_ready.proofs.lemmas.Claims.{claims_whole_at}
 use Rattle.fv_ready.proofs.lemmas.Seated.{told_graph, told_below, owes_nothing, free_of, hand_none, hand_lost, won_busy, lost_slots, seat_after}
 use Rattle.fv_ready.proofs.board.Board.claim.Goals as goal
 

@@ -3,7 +3,7 @@ use Rattle.std.specs.Slots.{slots_items}
 use mathlib.Core.Option.{some}
 use lib.ListN.{get_elem?}
 use Rattle.fv_graph.specs.Graph.{edges_of, net_of}
-use Rattle.fv_ready_rule.specs.Rule.{claim_word}
+use Rattle.fv_ready.specs.Rule.{claim_word}
 use Rattle.fv_ready.specs.Counted.{told_by}
 use Rattle.fv_ready.specs.Closed.{AreSlots}
 use Rattle.fv_ready.proofs.LeftOver.{whole}

@@ -1,7 +1,7 @@
 use Rattle.std.proofs.Common.{◌≡◌, ℕ, ◌-◌, ◌<◌, List, [], ◌∷◌, ap, sym, ◌∙◌, subst, arith}
 use Rattle.atomic_table.specs.Table.{rest}
 use Rattle.fv_graph.specs.TasksBeside.{times}
-use Rattle.fv_ready_rule.specs.inner.Spun.{spun}
+use Rattle.fv_ready.specs.inner.Spun.{spun}
 use Rattle.fv_ready.proofs.Found.{at_place, placed, in_front, held_is, long_items, back_with}
 use Rattle.fv_ready.proofs.board.Board.exchange.Goals as goal
 

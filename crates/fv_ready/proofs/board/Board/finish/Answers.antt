@@ -1,10 +1,10 @@
 use Rattle.std.proofs.Common.{◌+◌, ◌-◌, ◌++◌, false, drop, length, ap, sym, ◌∙◌, arith}
 use Rattle.fv_graph.specs.Graph.{Graph, inward, outward, feeds_of}
 use Rattle.fv_graph.proofs.lemmas.Graphs.{is_wires}
-use Rattle.fv_ready_rule.specs.Wired.{graph_wires}
-use Rattle.fv_ready_rule.specs.Rule.{noted, going}
-use Rattle.fv_ready_rule.specs.declared.Deed.TheVariants.{Stamped}
-use Rattle.fv_ready_rule.proofs.lemmas.Leaving.{leads, leaving}
+use Rattle.fv_ready.specs.Wired.{graph_wires}
+use Rattle.fv_ready.specs.Rule.{noted, going}
+use Rattle.fv_ready.specs.declared.view.Deed.TheVariants.{Stamped}
+use Rattle.fv_ready.proofs.lemmas.Leaving.{leads, leaving}
 use Rattle.fv_ready.proofs.lemmas.Seated.{told_graph, told_handed, told_few, feeds_fit, busy_of, seat_after, hand_finished, places_left}
 use Rattle.fv_ready.proofs.board.Board.finish.Goals as goal
 

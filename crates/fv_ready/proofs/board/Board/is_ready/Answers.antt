@@ -1,8 +1,8 @@
 use Rattle.std.proofs.Common.{◌≡◌, ◌+◌, ◌-◌, ap, ◌∙◌, refl, arith}
-use Rattle.fv_ready_rule.specs.Wired.{graph_wires}
-use Rattle.fv_ready_rule.specs.Rule.{noted}
-use Rattle.fv_ready_rule.specs.declared.Deed.TheVariants.{Saw}
-use Rattle.fv_ready_rule.proofs.lemmas.Load.{looks}
+use Rattle.fv_ready.specs.Wired.{graph_wires}
+use Rattle.fv_ready.specs.Rule.{noted}
+use Rattle.fv_ready.specs.declared.view.Deed.TheVariants.{Saw}
+use Rattle.fv_ready.proofs.lemmas.Load.{looks}
 use Rattle.fv_ready.specs.Seats.{view_of}
 use Rattle.fv_ready.proofs.lemmas.Seated.{seat_after, hand_seen}
 use Rattle.fv_ready.proofs.board.Board.is_ready.Goals as goal

@@ -2,8 +2,8 @@ use Rattle.std.proofs.Common.{◌<◌, None, sym, ◌∙◌, refl, subst}
 use Rattle.std.specs.Option.{IsSome}
 use Rattle.fv_graph.specs.TasksBeside.{times}
 use Rattle.fv_graph.specs.Graph.{inward}
-use Rattle.fv_ready_rule.specs.Wired.{graph_wires}
-use Rattle.fv_ready_rule.proofs.lemmas.Hands.{may_none}
+use Rattle.fv_ready.specs.Wired.{graph_wires}
+use Rattle.fv_ready.proofs.lemmas.Hands.{may_none}
 use Rattle.fv_ready.proofs.lemmas.Seated.{hand_inward, hand_may, exchanged}
 use Rattle.fv_ready.proofs.board.Board.receive.Goals as goal
 

@@ -1,10 +1,10 @@
 use Rattle.std.proofs.Common.{true, arith}
 use Rattle.fv_graph.proofs.lemmas.Graphs.{is_wires}
-use Rattle.fv_ready_rule.specs.Wired.{graph_wires}
-use Rattle.fv_ready_rule.specs.Rule.{noted}
-use Rattle.fv_ready_rule.specs.declared.Deed.TheVariants.{Stamped}
-use Rattle.fv_ready_rule.proofs.lemmas.Starting.{starting}
-use Rattle.fv_ready_rule.proofs.lemmas.Hands.{busy_won}
+use Rattle.fv_ready.specs.Wired.{graph_wires}
+use Rattle.fv_ready.specs.Rule.{noted}
+use Rattle.fv_ready.specs.declared.view.Deed.TheVariants.{Stamped}
+use Rattle.fv_ready.proofs.lemmas.Starting.{starting}
+use Rattle.fv_ready.proofs.lemmas.Hands.{busy_won}
 use Rattle.fv_ready.proofs.lemmas.Seated.{told_graph, told_few, busy_of, seat_after, hand_started}
 use Rattle.fv_ready.proofs.board.Board.start.Goals as goal
 

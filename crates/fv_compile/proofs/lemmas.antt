@@ -1,0 +1,3 @@
+-- The lemmas that proofs of other crates take.
+pub mod Values
+pub mod Shifted

@@ -1,4 +1,0 @@
-pub mod lemmas
-mod Looking
-mod Parted
-mod Numbered

@@ -1,5 +1,0 @@
-use Rattle.std.proofs.Common.{rules}
-use Rattle.fv_diagram_head.proofs.fixed.is_fixed.Goals as goal
-
-pub returns : goal.returns
-returns c = search rules

@@ -1,5 +1,0 @@
-use Rattle.fv_diagram_head.proofs.Parted.{CutSo}
-use Rattle.fv_diagram_head.proofs.head.head_of.Given as goal
-
-abbrev pub invariant-loop-i : goal.invariant-loop-i
-invariant-loop-i l = CutSo l.diagrams l.parts l.i l.wanted

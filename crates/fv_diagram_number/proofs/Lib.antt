@@ -1,5 +1,0 @@
-mod Actions
-mod FirstValues
-mod InPlace
-mod TimelessTurns
-mod Waiting

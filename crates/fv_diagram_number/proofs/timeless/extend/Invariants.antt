@@ -1,5 +1,0 @@
-use Rattle.fv_diagram_number.proofs.InPlace.{Extends}
-use Rattle.fv_diagram_number.proofs.timeless.extend.Given as goal
-
-abbrev pub invariant-loop : goal.invariant-loop
-invariant-loop l = Extends l.counter l.fn.numbers.items l.numbers.items

@@ -1,2 +1,0 @@
-pub mod headline
-pub mod inner

@@ -1,0 +1,3 @@
+pub mod headline
+pub mod inner
+pub mod Lists

@@ -1,0 +1,2 @@
+pub mod Timeless
+pub mod Looks

@@ -1,0 +1,13 @@
+//! The number of a diagram: what one that has no inputs, and does not depend on time, gives at time 0. And what stands before
+//! `rdtable` and `rwtable`: a table's head, which gives the table's size and its numbers, and what the table takes.
+#![tactic(auto)]
+
+mod fixed;
+mod head;
+mod number;
+mod table_numbers;
+mod timeless;
+
+pub use head::{Pieces, head_and_rest, is_head};
+pub use number::number_of;
+pub use table_numbers::{first_of, numbers};

@@ -1,4 +1,0 @@
-pub mod lemmas
-pub mod Renumbering
-pub mod Valid
-pub mod Writing

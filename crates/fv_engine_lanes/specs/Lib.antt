@@ -1,4 +1,0 @@
-pub mod Cells
-pub mod Lanes
-pub mod Renumbered
-pub mod Plans

@@ -1,7 +1,0 @@
-use Rattle.std.proofs.Common.{sym, subst}
-use Rattle.fv_eval_choosing.specs.Around.{IsNearest}
-use Rattle.fv_eval_choosing.proofs.around.Around.nearest.Goals as goal
-
-pub returns : goal.returns
-returns c = λ p scopes h.
-    subst (IsNearest p scopes c.args.name c.args.env) (sym c.find.ensures) ((c.in_ok-root.ensures p scopes h).leads c.args.name)

@@ -1,6 +1,0 @@
-use Rattle.std.proofs.Common.{◌≡◌, take}
-use Rattle.fv_eval_choosing.specs.ByName.{defined_in}
-use Rattle.fv_eval_choosing.proofs.by_name.definitions_of.Given as goal
-
-abbrev pub invariant-loop-id : goal.invariant-loop-id
-invariant-loop-id l = l.definitions.items ≡ defined_in l.tree (take l.id-index l.items)

@@ -1,6 +1,0 @@
-use Rattle.fv_eval_choosing.specs.Chosen.{nodes_of}
-use Rattle.fv_eval_choosing.proofs.RuleNodes.{rules_at}
-use Rattle.fv_eval_choosing.proofs.index.positions.Goals as goal
-
-pub paths-preserved : goal.paths-preserved
-paths-preserved c = c.in_ok-keep.ensures (rules_at c.args.tree.now (nodes_of c.args.rules)) c.paths.invariant c.in_ok-position.ensures

@@ -1,5 +1,0 @@
-use Rattle.fv_eval_choosing.proofs.Named.{AreSorted}
-use Rattle.fv_eval_choosing.proofs.lookup.Definitions.new.Given as goal
-
-abbrev pub invariant-loop-i : goal.invariant-loop-i
-invariant-loop-i l = AreSorted l.tree l.lists.items l.i

@@ -1,8 +1,0 @@
-use Rattle.std.proofs.Common.{rules}
-use Rattle.fv_eval_choosing.proofs.lookup.nearer.Goals as goal
-
-pub returns-else-b-a : goal.returns-else-b-a
-returns-else-b-a c = search rules
-
-pub returns-then-b-a : goal.returns-then-b-a
-returns-then-b-a c = search rules

@@ -1,6 +1,0 @@
-use Rattle.std.proofs.Common.{take}
-use Rattle.fv_eval_choosing.specs.Positions.{HasBoth}
-use Rattle.fv_eval_choosing.proofs.wants.Wants.with.Given as goal
-
-abbrev pub invariant-loop-wanted : goal.invariant-loop-wanted
-invariant-loop-wanted l = HasBoth l.others (take l.wanted-index l.wanted-items) l.rules

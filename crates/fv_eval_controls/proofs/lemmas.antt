@@ -1,2 +1,0 @@
--- The lemmas that proofs of other crates take.
-pub mod Entered

@@ -1,0 +1,104 @@
+// The controls of a program.
+
+ghost use Rattle.std.specs.Prelude.{ℕ, ◌≡◌, [], MatchResult};
+ghost use Rattle.fv_rules.specs.declared.refusal.EvalRefusal.TheVariants.{NoMemory};
+ghost use Rattle.fv_rules.specs.headline.Steps.{is_alike, is_kind};
+ghost use Rattle.fv_eval_drawing.specs.Controls.{Enters};
+
+use fv_diagram::{ControlInfo, ControlKind};
+use fv_rules::{EvalRefusal, too_many_to_count};
+use indexmap::IndexSet;
+use std::alloc::Global;
+use std::marker::Model;
+
+/// The controls of a program, in the order of their first evaluation.
+#[derive(Drop)]
+pub struct Controls {
+    list: Vec<ControlInfo>,
+    // The label of each, in the same order.
+    labels: IndexSet<Vec<u8>>,
+    alloc: Global,
+}
+
+impl Model for Controls {
+    ghost use Rattle.std.specs.Prelude.{List};
+    ghost use Rattle.fv_diagram.specs.declared.control.ControlInfo.{ControlInfo};
+    ghost use Rattle.fv_eval_drawing.specs.Controls.{AreLabels};
+
+    ghost Value = { List ControlInfo };
+
+    ghost view = { λ c. c.list.items };
+
+    ghost invariant = { λ c. AreLabels c.labels.keys c.list.items };
+}
+
+impl Controls {
+    /// None.
+    pub fn new(alloc: Global) -> Controls
+        ensures { result ≡ [] }
+    {
+        Controls {
+            list: Vec::new(alloc),
+            labels: IndexSet::new(alloc),
+            alloc,
+        }
+    }
+
+    /// The list.
+    pub fn as_slice(&self) -> &[ControlInfo]
+        ensures { result.now ≡ self.now }
+    {
+        self.list.as_slice()
+    }
+
+    /// The number of a control, which is a new one where its label is.
+    pub fn enter(&mut self, info: ControlInfo) -> Result<u32, EvalRefusal>
+        ensures { Enters self.old self.new info result }
+    {
+        if info.init < info.min || info.init > info.max {
+            return Err(EvalRefusal::ControlBounds { label: info.label });
+        }
+        match self.labels.get_index_of(info.label.bytes()) {
+            Some(i) => {
+                if !is_alike(&info, &self.list[i]) {
+                    return Err(EvalRefusal::ControlClash { label: info.label });
+                }
+                number(i)
+            }
+            None => {
+                let i = number(self.list.len())?;
+                let label = Vec::from_slice(self.alloc, info.label.bytes())?;
+                self.list.push(info)?;
+                if self.labels.insert(label).is_err() {
+                    let _ = self.list.pop();
+                    return Err(EvalRefusal::NoMemory);
+                }
+                Ok(i)
+            }
+        }
+    }
+}
+
+// A number of a control.
+fn number(i: usize) -> Result<u32, EvalRefusal>
+    ensures { MatchResult result (λ n. n ≡ i) (λ e. e ≡ NoMemory) }
+{
+    match u32::try_from(i) {
+        Ok(n) => Ok(n),
+        Err(_too_large) => Err(EvalRefusal::from(too_many_to_count())),
+    }
+}
+
+// Whether controls are of one kind, with the same init, min and max.
+fn is_alike(a: &ControlInfo, b: &ControlInfo) -> bool
+    ensures { result ≡ is_alike a.now b.now }
+{
+    is_kind(a.kind, b.kind) && (a.init == b.init && (a.min == b.min && a.max == b.max))
+}
+
+// Whether kinds are the same.
+fn is_kind(a: ControlKind, b: ControlKind) -> bool
+    ensures { result ≡ is_kind a b }
+{
+    a == b
+}

@@ -1,0 +1,33 @@
+use Rattle.std.proofs.Common.{◌∙◌, Some, ap, subst}
+use Rattle.fv_eval_scopes.specs.Environments.{outer_number}
+use Rattle.fv_eval_lookup.specs.Around.{IsRoot}
+use Rattle.fv_eval_lookup.proofs.Arounds.{root_bound, root_listed, root_on}
+use Rattle.fv_eval_lookup.proofs.around.Around.root_of.Goals as goal
+
+pub returns-in-Bound-clause-root : goal.returns-in-Bound-clause-root
+returns-in-Bound-clause-root c = λ scopes env h is.
+    let p = c.args.definitions.now in
+    let forks = c.args.self.now.tries in
+    let outer = c.outer_of.ensures ∙ ap outer_number c.in-Bound.is in
+    root_bound p scopes forks env c.in-Bound.outer c.in_ok-around.around c.in-Bound.name c.in-Bound.value (is ∙ ap Some c.in-Bound.is)
+    (subst (λ o. IsRoot p scopes forks o c.in_ok-around.around) outer (c.in_ok-around.ensures p scopes h))
+
+pub returns-in-Ok-clause-kept : goal.returns-in-Ok-clause-kept
+returns-in-Ok-clause-kept c = λ scopes h.
+    c.in-Ok.ensures.kept scopes h (c.in_ok-around.ensures c.args.definitions.now scopes h).there
+
+pub returns-in-Ok-clause-root : goal.returns-in-Ok-clause-root
+returns-in-Ok-clause-root c = λ scopes env h is.
+    let p = c.args.definitions.now in
+    let old = c.args.self.now.tries in
+    let new = c.nest.new.self.tries in
+    let around = c.in_ok-around.around in
+    let at = c.in_ok-around.ensures p scopes h in
+    let outer = c.outer_of.ensures ∙ ap outer_number c.in-Definitions.is in
+    root_listed p scopes new env c.in-Definitions.list c.in-Definitions.outer around c.in-Ok.root (is ∙ ap Some c.in-Definitions.is)
+    (root_on p scopes old new c.in-Definitions.outer around c.in-Ok.ensures.grown (subst (λ o. IsRoot p scopes old o around) outer at))
+    (c.in-Ok.ensures.nested scopes h at.there)
+
+pub returns-in-Err-clause-kept : goal.returns-in-Err-clause-kept
+returns-in-Err-clause-kept c = λ scopes h.
+    c.in-Err.ensures.kept scopes h (c.in_ok-around.ensures c.args.definitions.now scopes h).there

@@ -1,0 +1,394 @@
+// What a name stands for.
+
+ghost use Rattle.std.specs.Prelude.{ℕ, ◌≡◌, ◌⊎◌, ◌<◌, ◌≤◌, IfOk, IfSome, IsTrue, OnOk, Some, [], All, map, filter};
+ghost use Rattle.fv_parse_grammar.specs.headline.Tree.{items};
+ghost use Rattle.fv_parse.specs.headline.Trees.{text_of};
+ghost use Rattle.fv_parse.specs.Trees.{Parsed, size_of, tree_in, first_named};
+ghost use Rattle.fv_rules.specs.headline.Values.{Name, Env, Meaning as PureMeaning, lookup, is_of, definition_of, or_else};
+ghost use Rattle.fv_eval_lookup.specs.declared.by_name.Defined.{Defined as AnItem};
+ghost use Rattle.fv_eval_scopes.specs.Environments.{scope_in};
+ghost use Rattle.fv_eval_lookup.specs.Around.{AreAround, HasNone};
+ghost use Rattle.fv_eval_lookup.specs.ByName.{is_called};
+ghost use Rattle.fv_eval_scopes.specs.declared.value.Ruled.TheVariants.{Definitions as AtDefinitions};
+ghost use Rattle.fv_eval_scopes.specs.Shows.{World, IsInside, IsNamed, ShowsEnv, ShowsMeaning, rules_in};
+ghost use Rattle.fv_eval_lookup.specs.Leaving.{IsIndex};
+ghost use Rattle.fv_eval_lookup.specs.Shortcuts.{AreShortcuts};
+ghost use Rattle.fv_eval_scopes.specs.Outward.{SkipsTo, outer};
+ghost use Rattle.fv_eval_lookup.specs.inner.Lookup.{SaysOrPasses, IsMade, is_name, are_names};
+
+use crate::around::Around;
+use crate::by_name::{ByName, Defined, by_name};
+use crate::index::RuleIndex;
+use crate::shortcuts::Shortcuts;
+use fv_eval_scopes::{Meaning, Ruled, Scope, Scopes, Value, outer_of};
+use fv_parse::{Tree, TreeId, TreeNode, same_names};
+use std::alloc::{AllocError, Global};
+use std::marker::Model;
+
+/// So many steps are taken one by one before what has nothing of a name is passed at once.
+const ON_FOOT: u64 = 4;
+
+/// Where a look-up may go on from an environment: to the one around it, or by a shortcut, which may lead nowhere.
+#[derive(Clone, Copy)]
+struct Onward {
+    at: u64,
+    outer: u64,
+    direct: u64,
+}
+
+/// A tree with the definitions of each list in it, sorted by name, and an index of the rules at each place where there are
+/// many.
+#[derive(Drop)]
+pub struct Definitions<'a> {
+    tree: &'a Tree<'a>,
+    lists: Vec<ByName>,
+    indexes: Vec<RuleIndex>,
+    /// For each node at which rules stand, where among `indexes` to look for them.
+    places: Vec<u64>,
+}
+
+impl<'a> Model for Definitions<'a> {
+    ghost use Rattle.fv_parse.specs.Trees.{Parsed};
+    ghost use Rattle.fv_eval_lookup.specs.ByName.{AreIndexed};
+    ghost use Rattle.fv_eval_lookup.specs.Indexes.{AreIndexes};
+
+    ghost Value = { Parsed };
+
+    ghost view = { λ d. d.tree.now };
+
+    ghost invariant = { λ d. AreIndexed d.tree.now d.lists.items × AreIndexes d.tree.now d.indexes.items };
+}
+
+impl<'a> Definitions<'a> {
+    /// The definitions of a tree.
+    pub fn new(alloc: Global, tree: &'a Tree<'a>) -> Result<Definitions<'a>, AllocError>
+        ensures { IfOk result (λ d. d ≡ tree.now) }
+    {
+        let _within: Option<Defined> = None;
+        let mut lists = Vec::new(alloc);
+        for i in 0..tree.len() {
+            let id = TreeId::new(i);
+            let list = by_name(alloc, tree, id)?;
+            lists.push(list)?;
+        }
+        let mut definitions = Definitions {
+            tree,
+            lists,
+            indexes: Vec::new(alloc),
+            places: Vec::new(alloc),
+        };
+        definitions.index_all(alloc)?;
+        Ok(definitions)
+    }
+
+    // An index of the rules at each place.
+    fn index_all(&mut self, alloc: Global) -> Result<(), AllocError>
+        ensures { OnOk result (self.new ≡ self.old) }
+    {
+        let tree = self.tree;
+        for i in 0..tree.len() {
+            self.places.push(0)?;
+            self.index_at(alloc, TreeId::new(i))?;
+        }
+        Ok(())
+    }
+
+    // The same at a node: of the rules of a `case`, or of those of each name of a list of definitions.
+    fn index_at(&mut self, alloc: Global, id: TreeId) -> Result<(), AllocError>
+        requires { id < size_of self.old }
+        ensures { OnOk result (self.new ≡ self.old) }
+    {
+        let tree = self.tree;
+        match tree.node(id) {
+            TreeNode::Case(_) => self.index_rules(alloc, &Ruled::Case(id), id)?,
+            TreeNode::List(_) => self.index_functions(alloc, id)?,
+            _ => {}
+        }
+        Ok(())
+    }
+
+    // The same of the rules of each name of a list of definitions.
+    fn index_functions(&mut self, alloc: Global, list: TreeId) -> Result<(), AllocError>
+        requires { list < size_of self.old }
+        ensures { OnOk result (self.new ≡ self.old) }
+    {
+        let tree = self.tree;
+        for first in tree.items(list) {
+            if self.is_first(list, *first) {
+                let ruled = Ruled::Definitions {
+                    list,
+                    first: *first,
+                };
+                self.index_rules(alloc, &ruled, *first)?;
+            }
+        }
+        Ok(())
+    }
+
+    // Whether a node is the first definition of its name in a list, and one by patterns.
+    fn is_first(&self, list: TreeId, node: TreeId) -> bool
+        requires inside { list < size_of self.now }
+        requires there { node < size_of self.now }
+        ensures { IsTrue result → IsInside self.now (AtDefinitions list node) }
+    {
+        match self.tree.node(node) {
+            TreeNode::Function(name, _, _) => match self
+                .called(list, self.tree.name(*name))
+                .first()
+            {
+                Some(first) => first.node.number() == node.number(),
+                None => false,
+            },
+            _ => false,
+        }
+    }
+
+    // An index of the rules at a place, to be looked for at a node.
+    fn index_rules(&mut self, alloc: Global, ruled: &Ruled, node: TreeId) -> Result<(), AllocError>
+        requires { IsInside self.old ruled.now }
+        ensures { OnOk result (self.new ≡ self.old) }
+    {
+        let rules = self.rules(*ruled);
+        let Some(index) = RuleIndex::new(alloc, self.tree, ruled, rules)? else {
+            return Ok(());
+        };
+        let place = self.indexes.len() as u64;
+        self.indexes.push(index)?;
+        let i = node.number() as usize;
+        if i < self.places.len() {
+            self.places[i] = place;
+        }
+        Ok(())
+    }
+
+    /// The index of the rules at a place, where there is one.
+    pub(crate) fn index(&self, ruled: &Ruled) -> Option<&RuleIndex>
+        ensures { IfSome result (λ x. IsIndex (rules_in self.now ruled.now) x.now) }
+    {
+        let node = match ruled {
+            Ruled::Case(id) => id.number(),
+            Ruled::Definitions { first, .. } => first.number(),
+        };
+        let place = self.places.get(node as usize).copied()?;
+        let found = self.indexes.get(place as usize)?;
+        if is_same(&found.ruled, ruled) {
+            Some(found)
+        } else {
+            None
+        }
+    }
+
+    /// What a name, by its canonical number, stands for in an environment. The ways that it goes are remembered.
+    pub fn look_up(
+        &self,
+        scopes: &Scopes,
+        shortcuts: &mut Shortcuts,
+        name: u64,
+        env: u64,
+    ) -> Meaning
+        ensures kept { AreShortcuts self.now scopes.now.scopes shortcuts.old → AreShortcuts self.now scopes.now.scopes shortcuts.new }
+        ensures means { AreShortcuts self.now scopes.now.scopes shortcuts.old → (w : World) (x : Name) (E : Env)
+            → w.tree ≡ self.now → w.scopes ≡ scopes.now.scopes → IsNamed w name x → ShowsEnv w env E
+            → ShowsMeaning w result (lookup self.now.tokens E x) }
+    {
+        let mut steps = 0;
+        let mut mark = env;
+        let mut at = env;
+        'outward: while let Some(scope) = scopes.scope(at) {
+            if let Some(meaning) = self.in_scope(&scope, name, at) {
+                shortcuts.slots.keep(name, mark, at, steps);
+                return meaning;
+            }
+            let outer = outer_of(&scope);
+            // No environment stands around itself.
+            if outer >= at {
+                return Meaning::Unknown;
+            }
+            let direct = shortcuts.slots.outward(name, at, steps);
+            let way = Onward { at, outer, direct };
+            at = self.next(scopes, &mut shortcuts.around, &way, name, steps);
+            steps = steps.saturating_add(1);
+            mark = shortcuts.slots.mark(name, mark, at, steps);
+        }
+        Meaning::Unknown
+    }
+
+    // The next environment to look at behind one that has nothing of a name: by a shortcut that leads outward, or else from
+    // the environment around it on, and after a few steps over all that has nothing of the name.
+    fn next(&self, scopes: &Scopes, around: &mut Around, way: &Onward, name: u64, steps: u64) -> u64
+        requires { way.now.outer < way.now.at }
+        ensures kept { AreAround self.now scopes.now.scopes around.old → AreAround self.now scopes.now.scopes around.new }
+        ensures skips { AreAround self.now scopes.now.scopes around.old → SkipsTo self.now scopes.now.scopes name way.now.at way.now.outer
+            → SkipsTo self.now scopes.now.scopes name way.now.at way.now.direct → SkipsTo self.now scopes.now.scopes name way.now.at result }
+        ensures outward { result < way.now.at }
+    {
+        if way.direct < way.at {
+            way.direct
+        } else if steps < ON_FOOT {
+            way.outer
+        } else {
+            around.follow(self, scopes);
+            past(scopes, around, name, way.outer)
+        }
+    }
+
+    // What the innermost scope of an environment makes of a name.
+    fn in_scope(&self, scope: &Scope, name: u64, env: u64) -> Option<Meaning>
+        ensures { (w : World) (x : Name) (E : Env)
+            → w.tree ≡ self.now → scope_in w.scopes env ≡ Some scope.now → IsNamed w name x → ShowsEnv w env E
+            → SaysOrPasses w result (lookup self.now.tokens E x) (lookup self.now.tokens (outer E) x) }
+    {
+        match scope {
+            Scope::Bound {
+                name: bound,
+                value,
+                outer: _,
+            } => {
+                if *bound == name {
+                    Some(Meaning::Known(*value))
+                } else {
+                    None
+                }
+            }
+            Scope::Definitions { list, outer: _ } => self.defined(*list, name, env),
+        }
+    }
+
+    // What the definitions of a name in a list make of it, in the environment of the list.
+    fn defined(&self, list: TreeId, name: u64, env: u64) -> Option<Meaning>
+        ensures { (w : World) (x : Name) (E : Env) (m : PureMeaning)
+            → w.tree ≡ self.now → list < size_of w.tree → IsNamed w name x → ShowsEnv w env E
+            → SaysOrPasses w result
+            (or_else (definition_of self.now.tokens (filter (is_of self.now.tokens x) (items (tree_in self.now list)))) E m) m }
+    {
+        let found = self.called(list, name);
+        let first = found.first()?;
+        let count = found.len() as u64;
+        Some(made(self.tree, list, first.node, count, env))
+    }
+
+    /// The tree.
+    pub fn tree(&self) -> &Tree<'a>
+        ensures { result.now ≡ self.now }
+    {
+        self.tree
+    }
+
+    /// The definitions of a list, sorted by name.
+    pub(crate) fn listed(&self, list: TreeId) -> &[Defined]
+        ensures { (name : ℕ) → filter (is_called name) result.now ≡ [] → HasNone self.now list name }
+    {
+        let i = list.number() as usize;
+        if i < self.lists.len() {
+            self.lists[i].all()
+        } else {
+            &[]
+        }
+    }
+
+    /// The definitions of a name in a list, in order.
+    pub(crate) fn called(&self, list: TreeId, name: u64) -> &[Defined]
+        ensures found { list < size_of self.now → (n : ℕ) → first_named self.now.tokens n ≡ name
+            → map (λ (d : AnItem). tree_in self.now d.node) result.now
+            ≡ filter (is_of self.now.tokens (text_of self.now.tokens n)) (items (tree_in self.now list)) }
+        ensures there { All (λ (d : AnItem). d.node < size_of self.now) result.now }
+    {
+        let i = list.number() as usize;
+        if i < self.lists.len() {
+            self.lists[i].called(name)
+        } else {
+            &[]
+        }
+    }
+}
+
+// Whether rules stand at the same place.
+fn is_same(a: &Ruled, b: &Ruled) -> bool
+    ensures { IsTrue result → a.now ≡ b.now }
+{
+    match a {
+        Ruled::Case(id) => match b {
+            Ruled::Case(other) => id.number() == other.number(),
+            Ruled::Definitions { .. } => false,
+        },
+        Ruled::Definitions { list, first } => match b {
+            Ruled::Case(_) => false,
+            Ruled::Definitions {
+                list: other,
+                first: node,
+            } => list.number() == other.number() && first.number() == node.number(),
+        },
+    }
+}
+
+// What so many definitions of a name, of which this is the first one, make of it.
+fn made(tree: &Tree, list: TreeId, first: TreeId, count: u64, env: u64) -> Meaning
+    requires { first < size_of tree.now }
+    ensures { IsMade tree.now list first count env result }
+{
+    match tree.node(first) {
+        TreeNode::Constant(_, body) => Meaning::Body { body: *body, env },
+        TreeNode::Function(_, patterns, _) => {
+            if count == 1 && are_names(tree, *patterns) {
+                Meaning::Known(Value::Abstraction {
+                    node: first,
+                    bound: 0,
+                    env,
+                })
+            } else {
+                Meaning::Known(Value::Rules {
+                    ruled: Ruled::Definitions { list, first },
+                    env,
+                    count: 0,
+                    last: 0,
+                })
+            }
+        }
+        // It is no definition.
+        _ => Meaning::Unknown,
+    }
+}
+
+// The first environment from one outward that may have something of a name, where it is known which lists are around; else
+// this one.
+fn past(scopes: &Scopes, around: &Around, name: u64, env: u64) -> u64
+    ensures skips { (p : Parsed) → AreAround p scopes.now.scopes around.now → SkipsTo p scopes.now.scopes name env result }
+    ensures outward { result ≤ env }
+{
+    match around.nearest(name, env) {
+        None => env,
+        Some(list) => nearer(scopes.lead(env, name), scopes.lead(env, list)),
+    }
+}
+
+// The nearer one of two environments further outward.
+fn nearer(a: u64, b: u64) -> u64
+    ensures { ((result ≡ a) × (b ≤ a)) ⊎ ((result ≡ b) × (a ≤ b)) }
+{
+    if b <= a { a } else { b }
+}
+
+// Whether a node is a name.
+fn is_name(tree: &Tree, id: TreeId) -> bool
+    requires { id < size_of tree.now }
+    ensures { result ≡ is_name (tree_in tree.now id) }
+{
+    match tree.node(id) {
+        TreeNode::Named(_) => true,
+        _ => false,
+    }
+}
+
+// Whether patterns are names, at least one.
+fn are_names(tree: &Tree, patterns: TreeId) -> bool
+    requires { patterns < size_of tree.now }
+    ensures { result ≡ are_names (items (tree_in tree.now patterns)) }
+{
+    let items = tree.items(patterns);
+    for id in items {
+        if !is_name(tree, *id) {
+            return false;
+        }
+    }
+    !items.is_empty()
+}

@@ -1,8 +1,0 @@
-use Rattle.fv_eval_machine.proofs.Steps.{step_means, start_means}
-use Rattle.fv_eval_machine.proofs.laws.steps_mean.Goals as goal
-
-pub returns-clause-steps : goal.returns-clause-steps
-returns-clause-steps c = step_means c.evaluation_follows.ensures.value c.evaluation_follows.ensures.diagram
-
-pub returns-clause-starts : goal.returns-clause-starts
-returns-clause-starts c = start_means

@@ -1,3 +1,0 @@
--- The lemmas that proofs of other crates take.
-pub mod Redirected
-pub mod Kept

@@ -1,0 +1,15 @@
+use Rattle.std.proofs.Common.{[], ◌∙◌, arith}
+use Rattle.std.specs.VecDeque.{deque_capacity}
+use Rattle.fv_graph.specs.Ends.{but_front}
+use Rattle.fv_graph.proofs.lemmas.Places.{map_at, map_same, but_front_drop}
+use Rattle.fv_graph.proofs.by_worker.take_front.Goals as goal
+
+pub returns-clause-deque : goal.returns-clause-deque
+returns-clause-deque c = let o = c.args.deques.now.ok.0 in
+    map_at (λ d. d.items) (but_front) c.args.deques.now.items c.args.w c.pop_front.new.self c.index_mut-deque.result.now []
+    (omega arith) c.index_mut-deque.ensures.value (c.pop_front.ensures.rest ∙ but_front_drop c.index_mut-deque.result.now.items)
+
+pub returns-clause-rooms : goal.returns-clause-rooms
+returns-clause-rooms c = let o = c.args.deques.now.ok.0 in
+    map_same (λ d. deque_capacity d) c.args.deques.now.items c.args.w c.pop_front.new.self c.index_mut-deque.result.now
+    (omega arith) c.index_mut-deque.ensures.value c.pop_front.ensures.capacity

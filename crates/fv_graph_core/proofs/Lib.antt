@@ -1,9 +1,0 @@
-pub mod lemmas
-pub mod Valid
-pub mod Law
-pub mod Stepping
-pub mod Room
-pub mod Keeps
-pub mod Legal
-pub mod LeanLemmas
-pub mod Replaying

@@ -1,9 +1,0 @@
-pub mod Ends
-pub mod Core
-pub mod Lean
-pub mod Law
-pub mod Valid
-pub mod Kept
-pub mod Running
-pub mod Stored
-pub mod Ready

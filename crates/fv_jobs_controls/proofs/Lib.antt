@@ -1,4 +1,0 @@
-pub mod Positions
-pub mod Found
-pub mod Asked
-pub mod Heard

@@ -1,4 +1,0 @@
-pub mod Images
-pub mod Groups
-pub mod lemmas
-pub mod Joins

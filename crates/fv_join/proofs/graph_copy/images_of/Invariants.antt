@@ -1,6 +1,0 @@
-use Rattle.std.proofs.Common.{◌≡◌, take, map}
-use Rattle.fv_base.specs.headline.Lists.{at}
-use Rattle.fv_join.proofs.graph_copy.images_of.Given as goal
-
-abbrev pub invariant-loop-s : goal.invariant-loop-s
-invariant-loop-s l = l.list.items ≡ map (at l.images) (take l.s-index l.signals)

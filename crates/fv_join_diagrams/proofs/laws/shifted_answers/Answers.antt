@@ -1,5 +1,0 @@
-use Rattle.fv_join_diagrams.proofs.lemmas.Shifted.{shifted_answers}
-use Rattle.fv_join_diagrams.proofs.laws.shifted_answers.Goals as goal
-
-pub returns : goal.returns
-returns c = shifted_answers

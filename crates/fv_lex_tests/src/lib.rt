@@ -1,5 +1,0 @@
-//! Tests of fv_lex's public calls.
-#![tactic(auto)]
-
-#[cfg(test)]
-mod texts;

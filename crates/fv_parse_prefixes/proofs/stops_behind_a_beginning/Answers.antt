@@ -1,5 +1,0 @@
-use Rattle.fv_parse_prefixes.proofs.Programs.{stops_behind_a_beginning}
-use Rattle.fv_parse_prefixes.proofs.stops_behind_a_beginning.Goals as goal
-
-pub returns : goal.returns
-returns c = stops_behind_a_beginning

@@ -1,3 +1,0 @@
-pub mod headline
-pub mod Beginnings
-pub mod Examples

@@ -1,5 +1,0 @@
-//! Tests of fv_parse's public calls.
-#![tactic(auto)]
-
-#[cfg(test)]
-mod texts;

@@ -1,4 +1,0 @@
-pub mod lemmas
-pub mod Values
-pub mod Stays
-pub mod Irreducible

@@ -1,5 +1,0 @@
-use Rattle.fv_simplify_rules.proofs.lemmas.Choices.{choice_is}
-use Rattle.fv_simplify_rules.proofs.laws.choices_keep_values.Goals as goal
-
-pub returns : goal.returns
-returns c = choice_is

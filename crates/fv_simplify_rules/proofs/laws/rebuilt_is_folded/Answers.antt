@@ -1,6 +1,0 @@
-use Rattle.fv_simplify_rules.specs.Rebuilt.{IsMarked}
-use Rattle.fv_simplify_rules.proofs.lemmas.Chains.{folded}
-use Rattle.fv_simplify_rules.proofs.laws.rebuilt_is_folded.Goals as goal
-
-pub returns : goal.returns
-returns c = λ g f p room marks rest whole h. folded g f p room (IsMarked marks) whole h (IsMarked rest)

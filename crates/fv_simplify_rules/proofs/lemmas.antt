@@ -1,7 +1,0 @@
--- The lemmas that proofs of other crates take.
-pub mod Choices
-pub mod Origins
-pub mod Totals
-pub mod Reaches
-pub mod Chains
-pub mod Twice

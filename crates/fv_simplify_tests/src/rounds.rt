@@ -1,0 +1,97 @@
+// Graphs that need many rounds.
+
+use fv_num::Op;
+use fv_signal::Graph;
+use fv_simplify::{find, fold, folds};
+use std::alloc::{AllocError, Global};
+use std::process::Abort;
+use std::test::Fail;
+use test_graphs::{Line, Sound, given, graph_of};
+
+// A shift register of so many cells, each of which is the one before a sample earlier and 1 more; the first one has the input.
+// Behind it two sums of the input, which are equal.
+fn register(alloc: Global, cells: u64) -> Result<Graph, Fail> {
+    let mut lines = Vec::from_slice(alloc, &[Line::Input(0), Line::Const(1)])?;
+    let mut members = Vec::from_slice(alloc, &[0u64])?;
+    for cell in 0..cells {
+        let place = lines.len() as u64;
+        lines.push(Line::Back(0, cell))?;
+        lines.push(Line::Pair(Op::Add, place, 1))?;
+        members.push(place.wrapping_add(1))?;
+    }
+    let place = lines.len() as u64;
+    lines.extend_from_slice(&[
+        Line::Back(1, 0),
+        Line::Pair(Op::Add, place, 0),
+        Line::Back(2, 0),
+        Line::Pair(Op::Add, place.wrapping_add(2), 0),
+    ])?;
+    let last = place.wrapping_sub(1);
+    let one = place.wrapping_add(1);
+    let other = place.wrapping_add(3);
+    graph_of(
+        alloc,
+        &lines,
+        &[&members, &[one], &[other]],
+        &[last, one, other],
+    )
+}
+
+#[test]
+fn a_long_register_stays(rt: HostRuntime) -> Result<(), Fail> {
+    let alloc = rt.alloc();
+    for cells in [1, 5, 63, 64, 65, 300] {
+        let graph = register(alloc, cells)?;
+        let images = find(alloc, &graph)?;
+        assert!(rt; folds(&graph, &images), "{cells}");
+        let folded = fold(alloc, &graph)?;
+        let [last, one, other] = folded.outputs() else {
+            return Err("three".into());
+        };
+        assert!(rt; one == other && last != one, "{cells}");
+        let sound = Sound {
+            controls: &[],
+            samples: &[5, 7, -9, 100],
+            width: 1,
+        };
+        assert!(rt;
+            given(alloc, &folded, &sound, 8)? == given(alloc, &graph, &sound, 8)?,
+            "{cells}"
+        );
+    }
+    Ok(())
+}
+
+// So many equal counters behind one another: each counts by the sum of the one before.
+fn nested(alloc: Global, deep: u64) -> Result<Vec<Line>, AllocError> {
+    let mut lines = Vec::from_slice(alloc, &[Line::Input(0)])?;
+    let mut last = 0u64;
+    for group in 0..deep {
+        let place = lines.len() as u64;
+        lines.push(Line::Back(group, 0))?;
+        lines.push(Line::Pair(Op::Add, place, last))?;
+        last = place.wrapping_add(1);
+    }
+    Ok(lines)
+}
+
+#[test]
+fn a_deep_chain_takes_few_rounds(rt: HostRuntime) -> Result<(), Fail> {
+    let alloc = rt.alloc();
+    let lines = nested(alloc, 2000)?;
+    let mut groups = Vec::new(alloc);
+    for group in 0..2000u64 {
+        groups.push([group.wrapping_mul(2).wrapping_add(2)])?;
+    }
+    let mut lists = Vec::new(alloc);
+    for group in &groups {
+        lists.push(group.as_slice())?;
+    }
+    let graph = graph_of(alloc, &lines, &lists, &[4000])?;
+    let images = find(alloc, &graph)?;
+    assert!(rt; folds(&graph, &images));
+    for (place, image) in images.iter().enumerate() {
+        assert_eq!(rt; image.number(), place as u64);
+    }
+    Ok(())
+}

@@ -1,5 +1,0 @@
-// Tests of the strongly connected components.
-#![tactic(auto)]
-
-#[cfg(test)]
-mod rows;

@@ -1,0 +1,113 @@
+// A block by a crew.
+
+ghost use Rattle.std.specs.Prelude.{◌≡◌, ◌-◌, ◌<◌, ◌≤◌, [], length, All, IfOk, IfErr, OnOk, OnErr, vec_capacity, vec_len};
+ghost use Rattle.fv_base.specs.declared.limits.TheConstants.{MOST_WORKERS};
+ghost use Rattle.fv_outside.specs.Tasks.{task_count};
+ghost use Rattle.fv_outside.specs.headline.Journal.{IsOrdered};
+ghost use Rattle.fv_outside.specs.declared.gate.Line.{Line};
+ghost use Rattle.fv_graph.specs.Graph.{IsGraph, edges_of};
+ghost use Rattle.fv_ready.specs.Boards.{about_of, graph_of, name_of};
+ghost use Rattle.fv_steal.specs.Crews.{IsCrew};
+ghost use Rattle.fv_steal.specs.Parcels.{AreParcelsFrom};
+
+use crate::lines::{copy_lines, sort_lines};
+use crate::seats::seats_of;
+use crate::{Body, Worker, journal_law, work};
+use fv_graph::Tasks;
+use fv_outside::{Gate, Line};
+use fv_ready::{Board, Parcel, WorkerSeat};
+use std::alloc::Global;
+use std::marker::{Send, Sync};
+use std::sync::Wait;
+use std::thread::Threads;
+
+/// Runs the tasks of a block by so many workers side by side, in whatever order their steals make of it. `entries` has the parcel of
+/// each loop's entry edge, loop by loop; the answer has those of the exit edges, and `lines` becomes the block's journal. Where
+/// memory is refused no task is run, and the entries come back.
+pub fn run_crew<
+    R: Threads + Wait + Sync,
+    C: Parcel + Send + Drop,
+    B: Body<C> + Sync,
+    G: Gate + Sync,
+>(
+    rt: &R,
+    alloc: Global,
+    tasks: &Tasks,
+    workers: u32,
+    entries: Vec<C>,
+    body: &B,
+    lines: &mut Vec<Line>,
+    gate: &G,
+) -> Result<Vec<C>, Vec<C>>
+    requires workers { (0 < workers) × (workers ≤ MOST_WORKERS) }
+    requires body { B.tasks body.now ≡ tasks.now.tasks }
+    requires entries { AreParcelsFrom C.edge_of C.key_of (B.key body.now) 0 tasks.now.tasks.loops entries.items }
+    requires none { lines.old.items ≡ [] }
+    requires room { task_count tasks.now.tasks ≤ vec_capacity lines.old }
+    ensures exits { IfOk result (λ v. AreParcelsFrom C.edge_of C.key_of (B.key body.now)
+        (edges_of tasks.now.tasks - tasks.now.tasks.loops) tasks.now.tasks.loops v.items) }
+    ensures journal { OnOk result (IsOrdered tasks.now.tasks lines.new.items) }
+    ensures count { OnOk result (length lines.new.items ≡ task_count tasks.now.tasks) }
+    // Each task was run by one of so many.
+    ensures who { OnOk result (All (λ (line : Line). line.worker < workers) lines.new.items) }
+    ensures entries { IfErr result (λ v. AreParcelsFrom C.edge_of C.key_of (B.key body.now) 0 tasks.now.tasks.loops v.items) }
+    ensures untold { OnErr result (lines.new.items ≡ []) }
+    ensures room { vec_capacity lines.old ≤ vec_capacity lines.new }
+{
+    let Ok(mut exits) = Vec::with_capacity(alloc, tasks.loops() as usize) else {
+        return Err(entries);
+    };
+    let Ok(room) = Vec::with_capacity(alloc, workers as usize) else {
+        return Err(entries);
+    };
+    let (board, seats) = match Board::begin(alloc, tasks, workers, entries) {
+        Ok(made) => made,
+        Err((entries, _error)) => return Err(entries),
+    };
+    let crew = match Worker::crew(alloc, tasks, seats) {
+        Ok(crew) => crew,
+        Err((seats, _error)) => {
+            board.close(seats, &mut exits);
+            return Err(exits);
+        }
+    };
+    let exits = work_board(rt, tasks, board, crew, room, body, lines, exits, gate);
+    Ok(exits)
+}
+
+/// Has a crew run all tasks of its board, makes its lines the journal, and closes the board: the parcels of the exit edges. `seats`
+/// has room for the crew's seats, and `exits` for those parcels.
+fn work_board<R: Threads + Wait + Sync, C: Parcel + Send + Drop, B: Body<C> + Sync, G: Gate + Sync>(
+    rt: &R,
+    tasks: &Tasks,
+    board: Board<'_, C>,
+    mut crew: Vec<Worker<C>>,
+    seats: Vec<WorkerSeat<C>>,
+    body: &B,
+    lines: &mut Vec<Line>,
+    mut exits: Vec<C>,
+    gate: &G,
+) -> Vec<C>
+    requires graph { IsGraph tasks.now.tasks }
+    requires board { (graph_of board ≡ tasks.now) × ((about_of board).tasks.value ≡ tasks.now) }
+    requires some { 0 < vec_len crew }
+    requires crew { IsCrew C.edge_of C.key_of (name_of board) (about_of board) crew.items }
+    requires body { (B.tasks body.now ≡ tasks.now.tasks) × (B.key body.now ≡ C.key_of (about_of board).sample.value) }
+    requires seats { (vec_len seats ≡ 0) × (vec_len crew ≤ vec_capacity seats) }
+    requires lines { (lines.old.items ≡ []) × (task_count tasks.now.tasks ≤ vec_capacity lines.old) }
+    requires exits { (exits.items ≡ []) × (tasks.now.tasks.loops ≤ vec_capacity exits) }
+    ensures exits { AreParcelsFrom C.edge_of C.key_of (B.key body.now)
+        (edges_of tasks.now.tasks - tasks.now.tasks.loops) tasks.now.tasks.loops result.items }
+    ensures journal { IsOrdered tasks.now.tasks lines.new.items }
+    ensures count { length lines.new.items ≡ task_count tasks.now.tasks }
+    // Each task was run by one of the board's workers.
+    ensures who { All (λ (line : Line). line.worker < (about_of board.entry).workers) lines.new.items }
+    ensures room { vec_capacity lines.old ≤ vec_capacity lines.new }
+{
+    journal_law::<C>();
+    work(rt, tasks, &board, crew.as_mut_slice(), body, gate);
+    copy_lines(crew.as_slice(), lines);
+    sort_lines(lines);
+    board.close(seats_of(crew, seats), &mut exits);
+    exits
+}

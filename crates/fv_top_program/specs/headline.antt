@@ -1,0 +1,5 @@
+pub mod Compiled
+pub mod Answers
+pub mod Program
+pub mod Racks
+pub mod Kinds

@@ -1,0 +1,18 @@
+//! What the file of a program is: a text (its tokens, their tree, the tree's value, its channels and its delays), or a file of jobs whose
+//! programs are played side by side. And what is played of it: its graph, its channels and its controls.
+#![tactic(auto)]
+
+mod jobs;
+mod playable;
+mod programs;
+mod rack;
+mod rack_laws;
+mod text;
+mod text_laws;
+
+pub use jobs::arity_of;
+pub use playable::{Playable, read_playable};
+pub use programs::{Programs, Read, read_programs};
+pub use rack_laws::{front_is_enough, jobs_answer, one_file};
+pub use text::{check_channels, read_program};
+pub use text_laws::one_program;

@@ -1,0 +1,42 @@
+// Laws of files of programs.
+
+ghost use Rattle.fv_top_program.specs.Kinds.{IsOneFile, IsSomeFile, IsOneOrOther, FrontIsEnough, ProgramIsWhole};
+ghost use Rattle.fv_top_program.specs.Runs.{JobsAnswer, RunsAgree};
+
+use crate::one_program;
+use fv_compile::{parts_answer, parts_are_whole};
+use fv_diagram::answers_alike;
+use fv_jobs::jobs_hear_their_changes;
+use fv_rules::evaluates_to_runnables;
+
+/// A file of each kind is one program, or it is refused for one thing, and never both.
+pub fn one_file()
+    ensures once { IsOneFile }
+    ensures some { IsSomeFile }
+    ensures either { IsOneOrOther }
+{
+    one_program();
+}
+
+/// A file of which no more than one byte past its limit was read is what is read of it.
+pub fn front_is_enough()
+    ensures same { FrontIsEnough }
+    ensures whole { ProgramIsWhole }
+{
+    crate::text_laws::front_is_enough();
+    fv_jobs::front_is_enough();
+}
+
+/// A job answers, beside the others, what its program answers alone; so it is the same in every run that agrees on its text, its
+/// columns and its changes.
+pub fn jobs_answer()
+    ensures answer { JobsAnswer }
+    ensures agree { RunsAgree }
+{
+    answers_alike();
+    jobs_hear_their_changes();
+    parts_answer();
+    parts_are_whole();
+    evaluates_to_runnables();
+    one_program();
+}

@@ -1,6 +1,0 @@
-pub mod Each
-pub mod OneFile
-pub mod Delays
-pub mod lemmas
-pub mod Racks
-pub mod Answering

@@ -1,7 +1,0 @@
-pub mod Pieces
-pub mod Tokens
-pub mod Numerals
-pub mod Trees
-pub mod Values
-pub mod Delays
-pub mod Program
