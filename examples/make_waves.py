@@ -5,11 +5,14 @@ name, its input or `-`, and options, as faustvec takes them. Its program is `NAM
 import array
 import math
 import os
+import sys
 import wave
+
+FOLDER = os.path.dirname(os.path.abspath(__file__))
+sys.path.insert(0, os.path.join(FOLDER, "..", "tests"))
 
 import interpreter
 
-FOLDER = os.path.dirname(os.path.abspath(__file__))
 RATE = 8000
 
 

@@ -1,13 +1,10 @@
 """A second reading of the command, apart from faustvec: its words, its files, the order of its refusals, the bytes that it
-writes. It shares nothing with faustvec but docs/FORMATS.md; the language is that of examples/interpreter.py.
+writes. It shares nothing with faustvec but docs/FORMATS.md; the language is that of tests/interpreter.py.
 
 `answer(words, files, folders)` says what the command has to answer to these words, in a folder with these files."""
 import os
 import re
 import struct
-import sys
-
-sys.path.insert(0, os.path.join(os.path.dirname(os.path.abspath(__file__)), "..", "examples"))
 
 import interpreter
 from interpreter import Refused, wrap
