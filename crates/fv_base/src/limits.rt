@@ -1,5 +1,7 @@
 // How large things may be: each limit that a user can meet, once (this project's profile).
 
+ghost use Rattle.fv_base.specs.headline.Limits.{LimitsAre};
+
 /// How many bytes the text of a program may have, and a script of changes.
 pub const LONGEST_TEXT: usize = 1_048_576;
 
@@ -58,3 +60,8 @@ pub const DATA_LIMIT: u32 = 4_294_967_258;
 
 /// How many chunks a file may have in front of its samples.
 pub const MOST_CHUNKS: u32 = 4096;
+
+/// A law: each limit is the number that the documents give, so that no definition that names one hides how large it is.
+pub fn limits_are()
+    ensures { LimitsAre }
+{}

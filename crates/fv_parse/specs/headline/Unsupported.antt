@@ -5,7 +5,6 @@ use Rattle.std.specs.Option.{option_or}
 use Rattle.fv_lex.specs.declared.token.Symbol.{Symbol}
 use Rattle.fv_lex.specs.declared.token.Symbol.TheVariants as symbols
 use Rattle.fv_lex.specs.headline.Token.{Token}
-use Rattle.fv_parse.specs.declared.unsupported.TheConstants.{PERCENT}
 
 -- the words behind which a label stands (Faust manual)
 abbrev pub is_control : Symbol → Bool
@@ -18,9 +17,9 @@ abbrev pub is_open : Symbol → Bool
 is_open symbols.Open = true
 is_open t = false
 
--- `%` is among the bytes
+-- `%`, which is 37, is among the bytes
 abbrev pub has_percent : List ℕ → Bool
-has_percent text = list_any (λ b. nat_eq b PERCENT) text
+has_percent text = list_any (λ b. nat_eq b 37) text
 
 -- the word, where the test holds
 abbrev pub some_if : Bool → List ℕ → Option (List ℕ)
