@@ -1,10 +1,10 @@
 -- The graph of a whole diagram.
 use Rattle.std.proofs.Common.{◌≡◌, ℕ, ◌<◌, List, [], length, get_or, refl, sym, ap, ap₂, ◌∙◌, subst, arith, All, ℤ, pos, inl, inr, w32, FitsSigned}
-use Rattle.std.specs.Prelude.{slice_index}
+use Rattle.std.specs.Prelude.{slice_index, ◌⊎◌, ◌≤◌, Contains}
 use Rattle.std.proofs.lemmas.Bool.{cases_lt}
 use Rattle.std.proofs.lemmas.Int.{ints}
 use Rattle.std.proofs.lemmas.List.{get_or_default, get_or_past, get_or-map}
-use Rattle.std.proofs.lemmas.List.Elements.{All-get_or, All-from_get_or}
+use Rattle.std.proofs.lemmas.List.Elements.{All-get_or, All-from_get_or, All-weaker, All-contains_itself}
 use Rattle.fv_base.specs.headline.Lists.{IsPrefixOf}
 use Rattle.fv_base.proofs.lemmas.Lists.{prefix_refl, length_table, table_same, table_items, get_or_table}
 use Rattle.fv_num.specs.headline.Frames.{Frame, Stream, frame_at, column, table, carried}
@@ -34,7 +34,7 @@ use Rattle.fv_interval.specs.Delays.{AreAccepted}
 use Rattle.fv_interval.proofs.lemmas.Refused.{delays_are}
 use Rattle.fv_propagate.specs.inner.Progress.{Progress, puts, unstarted, started, signal_hooks, IsThere}
 use Rattle.fv_propagate.specs.headline.Propagated.{Propagates, HasControl, NamesOf, NamesWithin}
-use Rattle.fv_propagate.specs.Propagated.{DelaysStayWithin, AreShort}
+use Rattle.fv_propagate.specs.Propagated.{DelaysStayWithin, DelaysAreAmong, AreShort}
 use Rattle.fv_propagate.proofs.Alongside.{walk_back, walked_along, related_places}
 use Rattle.fv_propagate.proofs.Puts.{put_there, puts_at, puts_wide, puts_groups, puts_closed, puts_delays, puts_feedbacks, puts_keep}
 use Rattle.fv_propagate.proofs.Kept.{puts_all_there}
@@ -141,6 +141,15 @@ module _ (d : Diagram) (delays : List ℕ) (wf : IsWellFormed d) (free : HasNoFr
 
   pub names_within : NamesWithin d graph
   names_within s x l = names_of d AnyLimit tt tt (get_or graph.signals s x) (any_named.signals s x l)
+
+  -- the longest delays are those of the list, or 1 sample long
+  pub delays_among : DelaysAreAmong delays graph
+  delays_among s x back max l e =
+      let IsLimit : ℕ → Type 0 = λ n. (n ≤ 1) ⊎ Contains delays n in
+      let none : IsLimit 0 = inl (omega arith) in
+      let one : IsLimit 1 = inl (omega arith) in
+      let within : All IsLimit delays = All-weaker (Contains delays) IsLimit (λ n h. inr h) delays (All-contains_itself delays) in
+      subst (IsNamed (inputs d) (HasControl d) IsLimit none one) e ((made_named IsLimit none one within).signals s (Const (pos 0)) l)
 
   -- ---- its values
 

@@ -11,6 +11,7 @@ pub use Rattle.fv_num.specs.Interval as IntervalBeside
 pub use Rattle.fv_num.specs.SpanLaws
 pub use Rattle.fv_signal.specs.headline.Value
 pub use Rattle.fv_signal.specs.Value as ValueBeside
+pub use Rattle.fv_share.specs.Drafts
 pub mod inner
 pub use Rattle.fv_interval.specs.headline.Laws
 pub use Rattle.fv_interval.specs.headline.SpanHooks

@@ -1,5 +1,5 @@
 -- What calls say beside `headline/Propagated`: when a graph of signals gives what a diagram gives.
-use Rattle.std.specs.Prelude.{◌≡◌, ℕ, ◌<◌, ◌≤◌, List, length, pos, slice_index_or}
+use Rattle.std.specs.Prelude.{◌≡◌, ◌⊎◌, ℕ, ◌<◌, ◌≤◌, List, length, Contains, pos, slice_index_or}
 use Rattle.fv_num.specs.headline.Frames.{Frame, Stream}
 use Rattle.fv_num.specs.headline.Interval.{Interval, IsWithin}
 use Rattle.fv_signal.specs.declared.signal.Signal.TheVariants.{Const, Delay}
@@ -18,3 +18,8 @@ DelaysStayWithin d spans g =
 -- no greatest number of a delay is over the limit
 abbrev pub AreShort : Graph → Type 0
 AreShort g = (s x back max : ℕ) → s < length g.signals → slice_index_or g.signals s (Const (pos 0)) ≡ Delay x back max → max ≤ DELAY_LIMIT
+
+-- the greatest number of each delay is 1 at most, or one of these
+abbrev pub DelaysAreAmong : List ℕ → Graph → Type 0
+DelaysAreAmong delays g =
+    (s x back max : ℕ) → s < length g.signals → slice_index_or g.signals s (Const (pos 0)) ≡ Delay x back max → (max ≤ 1) ⊎ Contains delays max

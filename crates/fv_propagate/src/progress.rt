@@ -6,7 +6,7 @@ ghost use Rattle.fv_signal.specs.declared.signal.Signal.TheVariants.{Input, Back
 ghost use Rattle.fv_signal.specs.headline.Value.{IsGraph};
 ghost use Rattle.fv_diagram.specs.headline.Diagram.{table_inputs};
 ghost use Rattle.fv_diagram.specs.Diagram.{AreNumbers};
-ghost use Rattle.fv_share.specs.Drafts.{CanPut, IsPending, IsShut, BacksWithin, AreClosed, width_of, graph_of, table_in};
+ghost use Rattle.fv_share.specs.Drafts.{CanPut, IsPending, IsShut, BacksWithin, AreClosed, AreDistinct, width_of, graph_of, table_in};
 ghost use Rattle.fv_diagram.specs.Hooks.{padded as padded_of};
 ghost use Rattle.fv_propagate.specs.inner.Progress.{started, put, puts, put_mem, put_prefix, signal_hooks, IsThere, IsAdmitted};
 ghost use Rattle.fv_propagate.specs.inner.Progress.{AreNested, fed_of, put_delay, leaf_of, passed, grouped, opened_of, closed_of};
@@ -85,6 +85,7 @@ impl Progress {
         requires outs { All (IsThere self) outs.now }
         ensures graph { IfOk result (λ g. g ≡ graph_of self.draft outs.now) }
         ensures whole { OnOk result (IsGraph (graph_of self.draft outs.now)) }
+        ensures shared { OnOk result (AreDistinct self.draft.signals) }
     {
         self.builder.finish(outs)
     }

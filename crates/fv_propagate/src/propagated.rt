@@ -8,8 +8,9 @@ ghost use Rattle.fv_diagram.specs.Diagram.{IsWellFormed, HasNoFreeSlot};
 ghost use Rattle.fv_diagram.specs.Arena.{count_of, tree_of};
 ghost use Rattle.fv_interval.specs.headline.Delays.{delays_of};
 ghost use Rattle.fv_interval.specs.Delays.{AreAccepted};
+ghost use Rattle.fv_share.specs.Drafts.{AreDistinct};
 ghost use Rattle.fv_propagate.specs.headline.Propagated.{Propagates, NamesWithin};
-ghost use Rattle.fv_propagate.specs.Propagated.{DelaysStayWithin, AreShort};
+ghost use Rattle.fv_propagate.specs.Propagated.{DelaysStayWithin, DelaysAreAmong, AreShort};
 
 use crate::progress::Progress;
 use fv_diagram::{DiagramId, Diagrams, walk};
@@ -35,6 +36,10 @@ pub fn propagate(
         → DelaysStayWithin (tree_of diagrams.now root) spans g) }
     ensures short { IfOk result (λ g. (spans : List Interval) → AreSpans spans → AreAccepted (delays_of (tree_of diagrams.now root) spans) delays.now
         → AreShort g) }
+    // The greatest number of each delay is 1 at most, or one of those that the spans gave.
+    ensures longest { IfOk result (DelaysAreAmong delays.now) }
+    // Equal nodes share a number.
+    ensures shared { IfOk result (λ g. AreDistinct g.signals) }
     ensures width { IfOk result (λ g. length g.outputs ≡ outputs (tree_of diagrams.now root)) }
     ensures names { IfOk result (λ g. NamesWithin (tree_of diagrams.now root) g) }
 {

@@ -7,7 +7,7 @@ ghost use Rattle.std.specs.List.{position_or_len};
 ghost use Rattle.fv_signal.specs.declared.signal.Signal.{Signal as Node};
 ghost use Rattle.fv_signal.specs.headline.Value.{HasNumber, IsGraph};
 ghost use Rattle.fv_share.specs.Drafts.{table_in, with_table, with_tables, same_list, put_table, CanPut, OperandsThere, IsPending, IsShut, BacksWithin};
-ghost use Rattle.fv_share.specs.Drafts.{AreClosed, put, with_group, with_groups, with_members, graph_of, lists_in, CanClose, with_all_members};
+ghost use Rattle.fv_share.specs.Drafts.{AreClosed, AreDistinct, put, with_group, with_groups, with_members, graph_of, lists_in, CanClose, with_all_members};
 
 use fv_signal::{Graph, Signal, SignalId};
 use indexmap::IndexSet;
@@ -252,6 +252,8 @@ impl Builder {
         requires outputs { All (λ s. s < length self.signals) outputs.now }
         ensures graph { IfOk result (λ g. g ≡ graph_of self outputs.now) }
         ensures whole { OnOk result (IsGraph (graph_of self outputs.now)) }
+        // No signal stands at two places.
+        ensures shared { OnOk result (AreDistinct self.signals) }
     {
         let signals = self.signals.iter().copied().collect(self.alloc)?;
         let outs = outputs.iter().copied().collect(self.alloc)?;

@@ -2,7 +2,7 @@
 
 ghost use Rattle.std.specs.Prelude.{◌≡◌, ℕ, ◌+◌, ◌<◌, [], ◌∷◌, ◌++◌, length, take, map, All, IfOk, OnOk, slice_index_or, List, Bool, false};
 ghost use Rattle.fv_signal.specs.headline.Value.{members, IsGraph};
-ghost use Rattle.fv_share.specs.Drafts.{AreClosed, IsPending, graph_of, lists_in};
+ghost use Rattle.fv_share.specs.Drafts.{AreClosed, AreDistinct, IsPending, graph_of, lists_in};
 ghost use Rattle.fv_simplify.specs.Nodes.{node};
 ghost use Rattle.fv_simplify.specs.headline.Reducible.{AreShort};
 ghost use Rattle.fv_simplify.specs.Rebuilt.{IsMarked, IsRebuilt};
@@ -28,7 +28,8 @@ pub(crate) fn rebuild(
     requires marks { length marks.now ≡ length graph.now.signals }
     requires widths { length widths.now ≡ length graph.now.groups }
     requires good { AreGood graph.now marks.now widths.now }
-    ensures { IfOk result (λ h. (p : ℕ → ℕ) × IsRebuilt graph.now h p (room_in rooms.now) (IsMarked marks.now)) }
+    ensures rebuilt { IfOk result (λ h. (p : ℕ → ℕ) × IsRebuilt graph.now h p (room_in rooms.now) (IsMarked marks.now)) }
+    ensures shared { IfOk result (λ h. AreDistinct h.signals) }
 {
     let mut builder = begun(alloc, graph)?;
     let outputs = fill(alloc, &mut builder, graph, marks, widths, rooms)?;

@@ -2,6 +2,7 @@
 
 ghost use Rattle.std.specs.Prelude.{List, ℕ, IfOk};
 ghost use Rattle.fv_num.specs.headline.Frames.{Frame, Stream};
+ghost use Rattle.fv_share.specs.Drafts.{AreDistinct};
 ghost use Rattle.fv_simplify.specs.headline.Reducible.{AreShort};
 ghost use Rattle.fv_simplify.specs.Reducible.{StayWithin, IsSimpler};
 ghost use Rattle.fv_simplify.specs.Kept.{KeepsAll};
@@ -24,6 +25,8 @@ pub fn simplify(alloc: Global, graph: &Graph, controls: &[Span]) -> Result<Graph
     ensures simpler { IfOk result (IsSimpler graph.now) }
     // Where the controls are in their spans, and no delay went further than its greatest number, none does.
     ensures within { IfOk result (λ h. (X : List Frame) (c : ℕ → Stream) → AreSmallIn controls.now X c → StayWithin graph.now X c → StayWithin h X c) }
+    // Equal nodes share a number.
+    ensures shared { IfOk result (λ h. AreDistinct h.signals) }
 {
     let _spans = controls;
     let first = folded(alloc, graph)?;
@@ -54,7 +57,8 @@ fn one_of_each(alloc: Global, graph: &Graph) -> Result<Graph, AllocError>
 // The graph in which, moreover, delays are joined.
 fn joined(alloc: Global, graph: &Graph) -> Result<Graph, AllocError>
     requires { AreShort graph.now }
-    ensures { IfOk result (Joins graph.now) }
+    ensures joins { IfOk result (Joins graph.now) }
+    ensures shared { IfOk result (λ h. AreDistinct h.signals) }
 {
     let marks = marks(alloc, graph)?;
     let widths = widths(alloc, graph, &marks)?;

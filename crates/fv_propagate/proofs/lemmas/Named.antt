@@ -1,5 +1,5 @@
 -- What the signals of a graph name: inputs and controls that are there, numbers of 32 bits, and delays of the list.
-use Rattle.std.proofs.Common.{◌≡◌, ℕ, zero, suc, ◌<◌, ◌≤◌, List, [], ◌∷◌, length, get_or, refl, sym, ◌∙◌}
+use Rattle.std.proofs.Common.{ℕ, zero, suc, ◌<◌, List, [], ◌∷◌, length, get_or, refl, sym, ◌∙◌}
 use Rattle.std.proofs.Common.{subst, arith, All, pos, inl, inr, w32, FitsSigned, ℤ, Bool, true, false}
 use Rattle.std.proofs.lemmas.List.Elements.{All-drop, All-get_or}
 use Rattle.std.proofs.lemmas.Int.{ints}

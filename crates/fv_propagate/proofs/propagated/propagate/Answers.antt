@@ -2,15 +2,15 @@ use Rattle.std.proofs.Common.{◌≡◌, ℕ, List, length, sym, ap, ◌∙◌, 
 use Rattle.fv_num.specs.headline.Interval.{Interval}
 use Rattle.fv_num.specs.SpanLaws.{AreSpans}
 use Rattle.fv_signal.specs.headline.Value.{Graph, IsGraph}
-use Rattle.fv_share.specs.Drafts.{AreClosed, graph_of}
-use Rattle.fv_diagram.specs.headline.Diagram.{inputs}
+use Rattle.fv_share.specs.Drafts.{AreClosed, AreDistinct, graph_of}
 use Rattle.fv_diagram.specs.Arena.{tree_of}
 use Rattle.fv_interval.specs.headline.Delays.{delays_of}
 use Rattle.fv_interval.specs.Delays.{AreAccepted}
 use Rattle.fv_propagate.specs.inner.Progress.{Progress, IsThere}
 use Rattle.fv_propagate.specs.headline.Propagated.{Propagates, NamesWithin}
-use Rattle.fv_propagate.specs.Propagated.{DelaysStayWithin, AreShort}
-use Rattle.fv_propagate.proofs.Whole.{made, graph, propagates, stays_within, stays_short, names_within, made_wide, made_closed, made_is, inputs_there}
+use Rattle.fv_propagate.specs.Propagated.{DelaysStayWithin, DelaysAreAmong, AreShort}
+use Rattle.fv_propagate.proofs.Whole.{made, graph, propagates, stays_within, stays_short, delays_among, names_within}
+use Rattle.fv_propagate.proofs.Whole.{made_wide, made_closed, made_is, inputs_there}
 use Rattle.fv_propagate.proofs.propagated.propagate.Goals as goal
 
 pub walk-requires-clause-width : goal.walk-requires-clause-width
@@ -85,6 +85,23 @@ returns-clause-short c =
     let g : c.in_ok-graph.graph ≡ graph d ds r.well r.closed n = c.in_ok-graph.ensures.graph ∙ same in
     subst (λ (g : Graph). (spans : List Interval) → AreSpans spans → AreAccepted (delays_of d spans) ds → AreShort g) (sym g)
     (stays_short d ds r.well r.closed n (subst IsGraph same c.in_ok-graph.ensures.whole))
+
+pub returns-clause-longest : goal.returns-clause-longest
+returns-clause-longest c =
+    let r = c.requires in
+    let n = c.arity.ensures.numbers in
+    let d = tree_of c.args.diagrams.now c.args.root in
+    let ds = c.args.delays.now in
+    let is : (c.in_ok-outs.outs.items, c.walk.new.signals) ≡ made d ds r.well r.closed n =
+    made_is d ds c.in_ok-ins.ins.items c.in_ok-outs.outs.items c.from-count.result c.new-2.result c.in_ok-progress.progress c.inputs.new.self c.walk.new.signals
+    (c.from-count.ensures ∙ c.arity.ensures.arity.0) c.in_ok-progress.ensures c.in_ok-ins.ensures c.new-2.ensures c.in_ok-outs.ensures.walked in
+    let same : graph_of c.walk.new.signals.draft c.deref.result.now ≡ graph d ds r.well r.closed n =
+    ap (graph_of c.walk.new.signals.draft) c.deref.ensures.value ∙ ap (λ (r : List ℕ × Progress). graph_of r.1.draft r.0) is in
+    let g : c.in_ok-graph.graph ≡ graph d ds r.well r.closed n = c.in_ok-graph.ensures.graph ∙ same in
+    subst (DelaysAreAmong ds) (sym g) (delays_among d ds r.well r.closed n)
+
+pub returns-clause-shared : goal.returns-clause-shared
+returns-clause-shared c = subst (λ (g : Graph). AreDistinct g.signals) (sym c.in_ok-graph.ensures.graph) c.in_ok-graph.ensures.shared
 
 pub returns-clause-width : goal.returns-clause-width
 returns-clause-width c =

@@ -1,11 +1,10 @@
 use Rattle.std.proofs.Common.{◌≡◌, ◌<◌, ℕ, List, length, map, get_or, All, sym, ap, ap₂, ◌∙◌, subst, arith}
 use Rattle.std.proofs.lemmas.List.Elements.{All-get_or, All-from_get_or, All-map}
-use Rattle.fv_signal.specs.headline.Value.{members, IsGraph}
+use Rattle.fv_signal.specs.headline.Value.{members}
 use Rattle.fv_share.specs.Drafts.{Draft, AreClosed, CanClose, graph_of, lists_in, with_all_members}
-use Rattle.fv_simplify.specs.Rebuilt.{IsMarked, IsRebuilt}
 use Rattle.fv_simplify.specs.Passing.{room_in}
 use Rattle.fv_simplify.specs.Runs.{Pass, definitions}
-use Rattle.fv_simplify.proofs.Closes.{passed_long, can_close, all_closed, same_signals, is_rebuilt, both_ok}
+use Rattle.fv_simplify.proofs.Closes.{passed_long, can_close, all_closed, same_signals, is_rebuilt}
 use Rattle.fv_simplify.proofs.pass.fill.Goals as goal
 
 pub images_of-requires : goal.images_of-requires

@@ -9,7 +9,7 @@ use Rattle.fv_simplify.proofs.simpler.folded.Goals as goal
 pub returns-clause-folds : goal.returns-clause-folds
 returns-clause-folds c =
     IfOk-weaker c.rebuild.result _ (Folds c.args.graph.now)
-    (λ h r. record { images = r.0; marks = c.deref-2.result.now; graph = c.marks.ensures.graph; rebuilt = r.1 }) c.rebuild.ensures
+    (λ h r. record { images = r.0; marks = c.deref-2.result.now; graph = c.marks.ensures.graph; rebuilt = r.1 }) c.rebuild.ensures.rebuilt
 
 pub returns-clause-short : goal.returns-clause-short
 returns-clause-short c =

@@ -12,7 +12,7 @@ returns-clause-simpler c =
     let e = c.in_ok-one.one in
     let a : Folds g f = c.in_ok-first.ensures.folds in
     let k : KeepsAll f e = c.in_ok-one.ensures.keeps in
-    IfOk-weaker c.joined.result (Joins e) (IsSimpler g) (λ h j. simpler_through g f e h a k j) c.joined.ensures
+    IfOk-weaker c.joined.result (Joins e) (IsSimpler g) (λ h j. simpler_through g f e h a k j) c.joined.ensures.joins
 
 pub returns-clause-within : goal.returns-clause-within
 returns-clause-within c =

@@ -1,4 +1,4 @@
-use Rattle.std.proofs.Common.{◌∷◌, [], sym, ◌∙◌, subst}
+use Rattle.std.proofs.Common.{◌∷◌, [], sym, subst}
 use Rattle.fv_share.specs.Drafts.{Draft}
 use Rattle.fv_propagate.specs.inner.Progress.{Progress, IsProgress, AreNested}
 use Rattle.fv_propagate.specs.inner.Inside.{progress_of}
