@@ -1,7 +1,7 @@
 -- What calls say beside `headline/Reducible`: signals that can be made simpler, and what a simpler graph keeps (this project's profile).
 use Rattle.std.specs.Prelude.{◌≡◌, ℕ, ◌<◌, ◌≤◌, List, [], ◌∷◌, length, take, max, ℤ, pos, ◌+ℤ◌, ◌≤ℤ◌, slice_index_or, nat_eq, if◌then◌else◌, Some, true}
 use Rattle.std.specs.Prelude.{FitsSigned}
-use Rattle.std.specs.List.{sum_by}
+use Rattle.std.specs.List.{sum}
 use Rattle.std.specs.Int.{w32}
 use Rattle.fv_num.specs.declared.op.Op.{Op}
 use Rattle.fv_num.specs.declared.op.Op.TheVariants.{Select2, Select3}
@@ -77,7 +77,7 @@ farthest s (n ∷ ns) = max (far s n) (farthest s ns)
 
 -- the greatest delays of all signals, in one sum
 abbrev pub reach : Graph → ℕ
-reach g = sum_by (λ s. farthest s g.signals) (table (length g.signals) (λ s. s))
+reach g = sum (table (length g.signals) (λ s. farthest s g.signals))
 
 -- frames and controls of 32-bit numbers
 pub record AreSmall (X : List Frame) (c : ℕ → Stream) : Type 0 where

@@ -1,6 +1,6 @@
 -- Sums over numbers, and over the numbers that are owned.
 use Rattle.std.proofs.Common.{◌≡◌, ℕ, zero, suc, ◌+◌, ◌<◌, ◌≤◌, refl, sym, ap, ◌∙◌, subst, arith, inl, inr, true, false, Bool, if◌then◌else◌, nat_eq, ◌-◌}
-use Rattle.std.specs.List.{sum_by}
+use Rattle.std.specs.List.{sum}
 use Rattle.std.proofs.lemmas.List.Sums.{sum_by_push}
 use Rattle.std.proofs.lemmas.Bool.{cases_eq, eq-eqb, eqb-true}
 use Rattle.fv_num.specs.headline.Frames.{table}
@@ -16,9 +16,9 @@ abbrev pub total : ℕ → (ℕ → ℕ) → ℕ
 total zero f = 0
 total (suc n) f = total n f + f n
 
-pub total_is : (n : ℕ) (f : ℕ → ℕ) → sum_by f (table n (λ s. s)) ≡ total n f
+pub total_is : (n : ℕ) (f : ℕ → ℕ) → sum (table n f) ≡ total n f
 total_is zero f = refl
-total_is (suc n) f = sum_by_push f (table n (λ s. s)) n ∙ ap (λ k. k + f n) (total_is n f)
+total_is (suc n) f = sum_by_push (λ k. k) (table n f) (f n) ∙ ap (λ k. k + f n) (total_is n f)
 
 pub total_least : (n : ℕ) (f h : ℕ → ℕ) → ((i : ℕ) → i < n → f i ≤ h i) → total n f ≤ total n h
 total_least zero f h a = omega arith
