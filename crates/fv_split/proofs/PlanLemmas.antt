@@ -290,6 +290,7 @@ module _ (g : Graph) (p : Lanes) (stands : Vec ℕ Global) (bases kinds : Vec Ki
           ∙ map_items (λ q. value g q X c t) held.signals ∙ ap (λ n. table n (λ k. value g (at held.signals k) X c t)) held.long;
       counted = refl;
       steady = held.steady;
+      all_held = λ s l slow. let n = held.numbered s l slow in (at numbers s, n.0, n.1);
       outputs = (
         ap length are_outputs ∙ length-map g.outputs (lane_of (stands_of g) p.lanes.items),
         λ j l. ap (at signals) (output_is j l) ∙ (lane_stands (at g.outputs j) (graph.outputs j l) (AsOutput j l refl)).1,

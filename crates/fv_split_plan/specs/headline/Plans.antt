@@ -68,7 +68,9 @@ pub record PlanStands (g : Graph) (p : PlanView) : Type 0 where
   pub held : (X : List Frame) (c : ℕ → Stream) (t : ℕ) (controls : ℕ → ℤ) → ((k : ℕ) → NamesHeld p.held k → controls k ≡ c k t) →
       registers_after p.held controls (λ n i. pos 0) 0 1 (tables_alone p.tables) ≡ table (length p.held) (λ k. value g (names.held k) X c t)
   pub counted : names.count ≡ length p.held
+  -- the held values are the signals that are slower than the samples
   pub steady : (k : ℕ) → k < length p.held → rate_of g (names.held k) ≢ rate.Sample
+  pub all_held : (s : ℕ) → s < length g.signals → rate_of g s ≢ rate.Sample → (k : ℕ) × (k < length p.held) × (names.held k ≡ s)
   -- the lane of each output's signal
   pub outputs : (length p.outputs ≡ length g.outputs) × ((j : ℕ) → j < length g.outputs → names.lane (at p.outputs j) ≡ stand g (at g.outputs j))
   pub ends : (j : ℕ) → j < length g.outputs → (at g.outputs j < length g.signals) × (at p.outputs j < length p.lanes)
