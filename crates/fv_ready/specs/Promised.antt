@@ -1,5 +1,7 @@
 -- What all seats' lists, taken together, tell of a board that is closed (this project's profile).
-use Rattle.std.specs.Prelude.{◌≡◌, ℕ, ◌<◌, ◌≤◌, length}
+use Rattle.std.specs.Prelude.{◌≡◌, ℕ, ◌+◌, ◌<◌, ◌≤◌, ltb, length}
+use Rattle.fv_graph.specs.Core.{numbers}
+use Rattle.fv_graph.specs.Tasks.{bit, total}
 use Rattle.fv_graph.specs.TasksBeside.{times}
 use Rattle.fv_graph.specs.Net.{Net}
 use Rattle.fv_ready.specs.declared.view.Deed.{Deed}
@@ -8,7 +10,8 @@ use Rattle.fv_ready.specs.Whole.{starts_at, finishes_at}
 
 -- the rule's parts on stamps, claims, starts, finishes and arrivals, of lists in which f stands `n f` times
 pub record Tells (net : Net) (n : (Deed → ℕ) → ℕ) : Type 0 where
-  pub stamped_once : (k : ℕ) → n (stamps k) < 2
+  -- each number below that of all starts and finishes is drawn once, and no other
+  pub stamped : (k : ℕ) → n (stamps k) ≡ bit (ltb k (total (λ t. n (starts t) + n (finishes t)) (numbers net.tasks)))
   pub won_once : (t : ℕ) → n (wins t) < 2
   pub lost_won : (t : ℕ) → t < net.tasks → 0 < n (loses t) → n (wins t) ≡ 1
   pub started_won : (t : ℕ) → n (starts t) ≤ n (wins t)

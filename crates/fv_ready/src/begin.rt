@@ -1,9 +1,14 @@
 // A new board.
 
 ghost use Rattle.std.specs.Prelude.{◌≡◌, ℕ, ◌+◌, ◌*◌, ◌-◌, ◌^◌, ◌<◌, ◌≤◌, length, List, []};
-ghost use Rattle.std.specs.Prelude.{◌∷◌, ◌++◌, map, replicate, slice_index_or, Some, None, IfOk, IfErr, vec_len, vec_capacity};
+ghost use Rattle.std.specs.Prelude.{◌∷◌, ◌++◌, map, replicate, slice_index_or, Option, Some, None, IfOk, IfErr, vec_len, vec_capacity};
 ghost use Rattle.fv_base.specs.declared.limits.TheConstants.{MOST_WORKERS};
+ghost use Rattle.atomic_table.specs.Table.{State};
+ghost use Rattle.fv_graph.specs.Core.{opening};
 ghost use Rattle.fv_graph.specs.Graph.{net_of};
+ghost use Rattle.fv_ready.specs.declared.view.View.{View};
+ghost use Rattle.fv_ready.specs.Seats.{view_of};
+ghost use Rattle.fv_ready.specs.Steps.{Meets, ShowsNow};
 ghost use Rattle.fv_ready.specs.Whole.{first_words, first_view};
 ghost use Rattle.fv_ready.specs.Begun.{first_slots, parcels_of, AreRoomy, AreNewSeats, AreEntries};
 ghost use Rattle.fv_ready.specs.Counted.{HaveAll};
@@ -141,6 +146,9 @@ impl<'t, C: Parcel + Drop> Board<'t, C> {
         ensures seats { IfOk result (λ r. AreFirstSeatsOf C.edge_of C.key_of r.0 r.1.items) }
         // They are all that the board has.
         ensures all { IfOk result (λ r. AreSeatsOf C.edge_of C.key_of r.0 r.1.items × HaveAll (about_of r.0).workers r.1.items) }
+        // While the seats are as they are, the board shows the opening state.
+        ensures opening { IfOk result (λ r. (s : State (Option C) (View C)) → Meets C.edge_of C.key_of (about_of r.0) s
+            → s.views ≡ map view_of r.1.items → ShowsNow (about_of r.0) s (opening (net_of tasks.now.tasks) workers)) }
         ensures err { IfErr result (λ r. r.0.items ≡ entries.items) }
     {
         let loops = tasks.loops();

@@ -163,7 +163,8 @@ module _ {C : Type 0} (g : Tasks) where
         let p = permuted (λ (line : Line). bit (line.start == n) + bit (line.finish == n)) (flat_map lines_of ws) lines same in
         let f = total_flat (λ (line : Line). bit (line.start == n) + bit (line.finish == n)) (lines_of {C = C}) ws in
         let e = total_each (λ (w : Worker C). stamped n (lines_of w)) (λ w. done_by (stamps n) (did w)) ws (λ k d l. (h.journals k d l).stamps n) in
-        let s = told_is (stamps n) in let o = h.tells.stamped_once n in omega arith
+        let s = told_is (stamps n) in
+        let o : told_by (stamps n) (map seat_of ws) ≤ 1 = subst (λ k. k ≤ 1) (sym (h.tells.stamped n)) (bit_le _) in omega arith
 
     -- a task's finish has one stamp
     finish_is : (t k m : ℕ) → t < task_count g → 0 < said (finishes_at k t) ws → 0 < said (finishes_at m t) ws → k ≡ m

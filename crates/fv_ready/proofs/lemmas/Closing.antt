@@ -25,7 +25,7 @@ use Rattle.fv_ready.specs.Rule.{count_word, wins, loses, sees, arrives, stamps, 
 use Rattle.fv_ready.specs.Whole.{starts_at, finishes_at, AllKnow, IsWhole}
 use Rattle.fv_ready.specs.Promised.{Tells}
 use Rattle.fv_ready.proofs.lemmas.Numbers.{long_numbers}
-use Rattle.fv_ready.proofs.lemmas.Claim.{all_le}
+use Rattle.fv_ready.proofs.lemmas.Claim.{all_le, total_ext}
 use Rattle.fv_ready.proofs.lemmas.Taking.{give_all, none_left, valid_gives, at_below}
 use Rattle.fv_ready.specs.Carried.{IsMine, HasKey}
 use Rattle.fv_ready.proofs.Back.{back}
@@ -125,10 +125,14 @@ module _ {C Key : Type 0} (wires : Graph → Wires) (edge_of : C → ℕ) (key_o
     pub whole_is : (f : Deed → ℕ) → all f s.views ≡ done_by f v
     whole_is f = alone_total (λ (y : View C). done_by f y) s.views id v at (λ j u ne e. ap (total f) (others_spent j u ne e))
 
+    all_drawn : total (λ t. all (starts t) s.views + all (finishes t) s.views) (numbers n.tasks) ≡ total
+        (λ t. done_by (starts t) v + done_by (finishes t) v) (numbers n.tasks)
+    all_drawn = total_ext (λ t. all (starts t) s.views + all (finishes t) s.views) (λ t. done_by (starts t) v + done_by (finishes t) v)
+        (λ t. let x = whole_is (starts t) in let y = whole_is (finishes t) in omega arith) (numbers n.tasks)
+
     pub tells : Tells n (λ f. done_by f v)
     tells = let W = whole_is in record {
-      stamped_once = λ k. let w = W (stamps k) in let p = h.kept.stamped k in
-          let b = Rattle.fv_graph.proofs.lemmas.Counts.bit_le (ltb k (slice_index s.words 0)) in omega arith;
+      stamped = λ k. sym (W (stamps k)) ∙ h.kept.stamped k ∙ ap (λ m. bit (ltb k m)) (h.drawn ∙ all_drawn);
       won_once = λ t. let w = W (wins t) in let p = h.kept.won_once t in omega arith;
       lost_won = λ t there pos. let w = W (wins t) in let l = W (loses t) in let p = h.kept.lost t there (omega arith) in
           let q = h.kept.claimed t there in omega arith;

@@ -6,6 +6,7 @@ use Rattle.fv_ready.proofs.Laying.{begins_so, key_is, words_long, slots_long}
 use Rattle.fv_ready.proofs.lemmas.Moving.{parcels_first}
 use Rattle.fv_ready.proofs.Dealing.{first_seats, are_seats, having_one}
 use Rattle.fv_ready.proofs.lemmas.Seated.{edges_fit}
+use Rattle.fv_ready.proofs.Openings.{opens_seats}
 use Rattle.fv_ready.proofs.board.Board.begin.Goals as goal
 
 pub new-requires : goal.new-requires
@@ -73,3 +74,9 @@ returns-in-Ok-new-clause-all g c =
             (let n = c.deal.ensures.count in let o = c.deal.new.seats.ok.0 in omega arith),
       ),
     )
+
+pub returns-in-Ok-new-clause-opening : goal.returns-in-Ok-new-clause-opening
+returns-in-Ok-new-clause-opening g c =
+    let table = c.in-Ok-new.table.shared in let first = returns-in-Ok-new-clause-seats g c in
+    opens_seats g.C.Parcel.edge_of g.C.Parcel.key_of table.table_id table.key c.args.tasks.now c.args.workers c.deal.new.seats.items first
+    (ap (λ k. k.tasks.value) c.in-Ok-new.ensures.ok.5 ∙ c.of.ensures) (ap (λ k. k.workers) c.in-Ok-new.ensures.ok.5)
