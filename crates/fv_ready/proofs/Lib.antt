@@ -1,5 +1,6 @@
 pub mod lemmas
 pub mod Noted
+pub mod Gaps
 pub mod Shows
 pub mod Regrouped
 pub mod Joined

@@ -1,5 +1,6 @@
 -- The rule stays where no stamp, count or arrival is new, as where seats are cut or joined.
-use Rattle.std.proofs.Common.{◌≡◌, ℕ, ◌+◌, ◌<◌, ◌⊎◌, inl, inr, ⊎_elim, List, length, slice_index, refl, sym, ap, ◌∙◌, arith, ◌==◌, Option, Some, ltb}
+use Rattle.std.proofs.Common.{◌≡◌, ℕ, ◌+◌, ◌<◌, ◌≤◌, ◌&&◌, ◌⊎◌, inl, inr, ⊎_elim, List, length, slice_index, refl, sym, ap, ◌∙◌, arith, Option, Some, ltb}
+use Rattle.std.proofs.Math.Dec.{leb}
 use Rattle.std.specs.List.Sorted.{IsStrictlyIncreasing}
 use mathlib.Core.Option.{some}
 use lib.ListN.{get_elem?}
@@ -12,7 +13,7 @@ use Rattle.fv_graph.specs.Core.{numbers}
 use Rattle.fv_ready.specs.declared.view.Deed.{Deed}
 use Rattle.fv_ready.specs.declared.view.About.{About}
 use Rattle.fv_ready.specs.declared.view.View.{View}
-use Rattle.fv_ready.specs.Rule.{count_word, wins, loses, sees, arrives, stamps, starts, finishes, all, IsSpent, IsOwn, IsKept, zeroes}
+use Rattle.fv_ready.specs.Rule.{count_word, wins, loses, sees, arrives, stamps, starts, finishes, all, IsSpent, IsOwn, IsKept, saw, arrives_with}
 use Rattle.fv_ready.specs.Shown.{Reached}
 use Rattle.fv_ready.specs.Whole.{starts_at, finishes_at, all_having, AllKnow, IsWhole}
 use Rattle.fv_ready.proofs.lemmas.Claim.{total_ext}
@@ -27,7 +28,7 @@ module _ {C Key : Type 0} (wires : Graph → Wires) (edge_of : C → ℕ) (key_o
     pub finishes : (t : ℕ) → all (finishes t) s'.views ≡ all (finishes t) s.views
     pub starts_at : (k t : ℕ) → all (starts_at k t) s'.views ≡ all (starts_at k t) s.views
     pub finishes_at : (k t : ℕ) → all (finishes_at k t) s'.views ≡ all (finishes_at k t) s.views
-    pub zeroes : (t : ℕ) → all (zeroes net t) s'.views ≡ all (zeroes net t) s.views
+    pub arrives_with : (t c : ℕ) → all (arrives_with net t c) s'.views ≡ all (arrives_with net t c) s.views
     pub arrives : (e : ℕ) → all (arrives e) s'.views ≡ all (arrives e) s.views
     pub stamp_word : slice_index s'.words 0 ≡ slice_index s.words 0
     pub count_words : (t : ℕ) → t < net.tasks → slice_index s'.words (count_word t) ≡ slice_index s.words (count_word t)
@@ -40,8 +41,14 @@ module _ {C Key : Type 0} (wires : Graph → Wires) (edge_of : C → ℕ) (key_o
     pub in_order : AllKnow {C = C} {S = Option C} a s' → (id : ℕ) (v : View C) → get_elem? s'.views id ≡ some v → IsStrictlyIncreasing v.numbers
     pub reached : AllKnow {C = C} {S = Option C} a s' → Reached {C = C} {S = Option C} net a.workers s'
 
-  pub whole_steady : (s' : State (Option C) (View C)) → IsWhole wires edge_of key_of a s → IsSteady s' → HasRest s' → IsWhole wires edge_of key_of a s'
-  whole_steady s' h e rest = record {
+  -- each look found a count that lies between the word and the number of the task's edges
+  abbrev pub LookedBetween : State (Option C) (View C) → Type 0
+  LookedBetween s' = (t c : ℕ) → t < net.tasks → 0 < all (saw t c) s'.views
+      → (slice_index s'.words (count_word t) ≤ c) × (c ≤ length (net.needs t))
+
+  pub whole_steady : (s' : State (Option C) (View C)) → IsWhole wires edge_of key_of a s → IsSteady s' → LookedBetween s' → HasRest s'
+      → IsWhole wires edge_of key_of a s'
+  whole_steady s' h e looked rest = record {
     kept = rest.kept;
     numbered = rest.numbered;
     has_one = rest.has_one;
@@ -51,7 +58,9 @@ module _ {C Key : Type 0} (wires : Graph → Wires) (edge_of : C → ℕ) (key_o
     stamped_once = λ t. let x = e.starts t in let y = e.finishes t in let o = h.stamped_once t in (omega arith, omega arith);
     start_below = λ k t pos. let p = h.start_below k t (let x = e.finishes_at k t in omega arith) in
         (p.0, p.1, (let x = e.starts_at p.0 t in let y = p.2 in omega arith));
-    zero_once = λ t there some'. e.zeroes t ∙ h.zero_once t there some' ∙ ap (λ i. bit (i == 0)) (sym (e.count_words t there));
+    counts_once = λ t c there. e.arrives_with t c ∙ h.counts_once t c there
+        ∙ ap (λ i. bit (leb i c && ltb c (length (net.needs t)))) (sym (e.count_words t there));
+    seen_between = looked;
     arrived_done = λ x. let p = e.arrives x in let q = e.finishes (net.source x) in let o = h.arrived_done x in omega arith;
     after_reads = λ k t x there pos needs. let p = h.after_reads k t x there (let y = e.starts_at k t in omega arith) needs in
         (p.0, p.1, (let y = e.finishes_at p.0 (net.source x) in let z = p.2 in omega arith));
@@ -97,8 +106,8 @@ module _ {C Key : Type 0} (wires : Graph → Wires) (edge_of : C → ℕ) (key_o
     finishes = λ t. E (finishes t);
     starts_at = λ k t. E (starts_at k t);
     finishes_at = λ k t. E (finishes_at k t);
-    zeroes = λ t. E (zeroes n t);
+    arrives_with = λ t c. E (arrives_with n t c);
     arrives = λ e. E (arrives e);
     stamp_word = refl;
     count_words = λ t there. refl;
-  } rest
+  } (λ t c there pos. h.seen_between t c there (let e = E (saw t c) in omega arith)) rest

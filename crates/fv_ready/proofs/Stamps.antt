@@ -2,6 +2,7 @@
 use Rattle.std.proofs.Common.{◌≡◌, ◌≢◌, ℕ, suc, ◌+◌, ◌<◌, ◌≤◌, Bool, true, false, not, ◌&&◌, ◌⊎◌, inl, inr, ⊎_elim, List, [], ◌∷◌}
 use Rattle.std.proofs.Common.{length, set, slice_index, refl, sym, ap, ◌∙◌, subst, arith, ◌==◌}
 use Rattle.std.proofs.Common.{Option, Some, length-set, ltb, lt-ltb, ltb-true, true≢false, get_or-set_same}
+use Rattle.std.proofs.Math.Dec.{leb}
 use Rattle.std.specs.List.Sorted.{IsStrictlyIncreasing}
 use mathlib.Core.Option.{some}
 use mathlib.Core.Logic.{dite}
@@ -23,7 +24,7 @@ use Rattle.fv_ready.specs.declared.view.Deed.TheVariants.{Stamped, Arrived, Saw,
 use Rattle.fv_ready.specs.declared.view.About.{About}
 use Rattle.fv_ready.specs.declared.view.View.{View}
 use Rattle.fv_ready.specs.Rule.{count_word, claim_word, wins, loses, sees, arrives, stamps, starts, finishes, done_by, all, noted, IsSpent, IsOwn, Fits}
-use Rattle.fv_ready.specs.Rule.{IsKept, zeroes}
+use Rattle.fv_ready.specs.Rule.{IsKept, saw, arrives_with}
 use Rattle.fv_ready.specs.Shown.{Reached}
 use Rattle.fv_ready.specs.Whole.{starts_at, finishes_at, IsWhole}
 use Rattle.fv_ready.proofs.Noted.{known_before}
@@ -240,8 +241,10 @@ module _ {C Key : Type 0} (wires : Graph → Wires) (edge_of : C → ℕ) (key_o
               (let g = A (starts_at r.0 t) in let m = all_at (starts_at r.0 t) s.views id v at in let i = r.1 in omega arith),
         ))
         (λ some'. let r = h.start_below j x (omega arith) in (r.0, r.1, (let g = A (starts_at r.0 x) in let m = r.2 in omega arith)));
-    zero_once = λ x hx some'. let p = A (zeroes n x) in let z = word_else (count_word x) (λ e. omega arith) in
-        let q = ap (λ i. bit (i == 0)) z in let r = h.zero_once x hx some' in omega arith;
+    counts_once = λ x c hx. let p = A (arrives_with n x c) in let z = word_else (count_word x) (λ e. omega arith) in
+        let q = ap (λ i. bit (leb i c && ltb c (length (n.needs x)))) z in let r = h.counts_once x c hx in omega arith;
+    seen_between = λ x c hx pos. let p = A (saw x c) in let z = word_else (count_word x) (λ e. omega arith) in
+        let r = h.seen_between x c hx (omega arith) in let r0 = r.0 in (omega arith, r.1);
     arrived_done = λ e. let p = A (arrives e) in let q = A (finishes (n.source e)) in let r = h.arrived_done e in omega arith;
     after_reads = λ j x e hx pos needs. let p = A (starts_at j x) in dite (ℕ_discrete (all (starts_at j x) s.views) 0)
         (λ none. let q = stamped_start j x (omega arith) in let r = finished_source e (subst (λ i. 0 < times e (n.needs i)) q.1 needs) in

@@ -1,6 +1,7 @@
 -- The steps under the whole rule, from their parts.
 use Rattle.std.proofs.Common.{◌≡◌, ℕ, ◌+◌, ◌-◌, ◌<◌, Bool, true, false, ◌&&◌, ⊎_elim, List, [], ◌∷◌, ◌++◌}
-use Rattle.std.proofs.Common.{length, set, slice_index, refl, sym, ap, ◌∙◌, subst, arith, ◌==◌, Option, Some, ltb, ne_eqb}
+use Rattle.std.proofs.Common.{length, set, slice_index, refl, sym, ap, ◌∙◌, subst, arith, ◌==◌, Option, Some, ltb}
+use Rattle.std.proofs.Math.Dec.{leb}
 use Rattle.std.specs.List.Sorted.{IsStrictlyIncreasing}
 use mathlib.Core.Option.{some}
 use mathlib.Core.Logic.{dite}
@@ -22,13 +23,14 @@ use Rattle.fv_ready.specs.declared.view.Deed.{Deed}
 use Rattle.fv_ready.specs.declared.view.Deed.TheVariants.{Stamped, Arrived, Saw, Claimed}
 use Rattle.fv_ready.specs.declared.view.About.{About}
 use Rattle.fv_ready.specs.declared.view.View.{View}
-use Rattle.fv_ready.specs.Rule.{count_word, wins, arrives, starts, finishes, done_by, all, noted, IsKept, zeroes}
+use Rattle.fv_ready.specs.Rule.{count_word, wins, arrives, starts, finishes, done_by, all, noted, IsKept, saw, arrives_with}
 use Rattle.fv_ready.specs.Shown.{worker_of, Shows, Reached, OwesNothing}
 use Rattle.fv_ready.specs.Whole.{starts_at, finishes_at, IsWhole}
 use Rattle.fv_ready.proofs.Noted.{known_before}
 use Rattle.fv_ready.proofs.lemmas.Claim.{all_noted, all_at, total_ext}
 use Rattle.fv_ready.proofs.lemmas.Splits.{sum_set}
-use Rattle.fv_ready.proofs.Regrouped.{whole_steady}
+use Rattle.fv_ready.proofs.Gaps.{between_less}
+use Rattle.fv_ready.proofs.Regrouped.{whole_steady, LookedBetween}
 use Rattle.fv_ready.proofs.Shows.{lean_more, reached_claim}
 use Rattle.fv_ready.proofs.Finishes.{IsFinish, shows_same, shows_finished, may_finish}
 use Rattle.fv_ready.proofs.Arrives.{IsArrival, shows_arrived, may_arrive}
@@ -39,7 +41,7 @@ pub record IsQuiet (n : Net) (d : Deed) : Type 0 where
   pub finishes : (x : ℕ) → finishes x d ≡ 0
   pub starts_at : (m x : ℕ) → starts_at m x d ≡ 0
   pub finishes_at : (m x : ℕ) → finishes_at m x d ≡ 0
-  pub zeroes : (x : ℕ) → zeroes n x d ≡ 0
+  pub arrives_with : (x c : ℕ) → arrives_with n x c d ≡ 0
   pub arrives : (e : ℕ) → arrives e d ≡ 0
 
 pub saw_quiet : (n : Net) (t c : ℕ) → IsQuiet n (Saw t c)
@@ -48,8 +50,7 @@ saw_quiet n t c = record {
   finishes = λ x. refl;
   starts_at = λ m x. refl;
   finishes_at = λ m x. refl;
-  zeroes = λ x.
-      refl;
+  arrives_with = λ x c. refl;
   arrives = λ e. refl;
 }
 
@@ -59,8 +60,7 @@ claim_quiet n t b = record {
   finishes = λ x. refl;
   starts_at = λ m x. refl;
   finishes_at = λ m x. refl;
-  zeroes = λ x.
-      refl;
+  arrives_with = λ x c. refl;
   arrives = λ e. refl;
 }
 
@@ -103,6 +103,7 @@ module _ {C Key : Type 0} (wires : Graph → Wires) (edge_of : C → ℕ) (key_o
       (kept' : IsKept wires edge_of key_of a record { words = words'; homes = homes'; views = set s.views id (noted v d) })
       (word_0 : slice_index words' 0 ≡ slice_index s.words 0) (counts : (x : ℕ) → x < n.tasks → slice_index words' (count_word x) ≡
       slice_index s.words (count_word x))
+      (looked : LookedBetween wires edge_of key_of a s record { words = words'; homes = homes'; views = set s.views id (noted v d) })
       (reached' : ((j : ℕ) (y : View C) → get_elem? (set s.views id (noted v d)) j ≡ some y → y.board ≡ Some a) → Reached {C = C}
       {S = Option C} n a.workers record { words = words'; homes = homes'; views = set s.views id (noted v d) }) where
     A : (f : Deed → ℕ) → f d ≡ 0 → all f (set s.views id (noted v d)) ≡ all f s.views
@@ -114,11 +115,11 @@ module _ {C Key : Type 0} (wires : Graph → Wires) (edge_of : C → ℕ) (key_o
       finishes = λ t. A (finishes t) (quiet.finishes t);
       starts_at = λ k t. A (starts_at k t) (quiet.starts_at k t);
       finishes_at = λ k t. A (finishes_at k t) (quiet.finishes_at k t);
-      zeroes = λ t. A (zeroes n t) (quiet.zeroes t);
+      arrives_with = λ t c. A (arrives_with n t c) (quiet.arrives_with t c);
       arrives = λ e. A (arrives e) (quiet.arrives e);
       stamp_word = word_0;
       count_words = counts;
-    } record {
+    } looked record {
       kept = kept';
       numbered = numbered' d;
       has_one = each d (λ y. y.board ≡ Some a → 0 < length y.numbers) (h.has_one id v at) h.has_one;
@@ -216,16 +217,20 @@ module _ {C Key : Type 0} (wires : Graph → Wires) (edge_of : C → ℕ) (key_o
           (omega arith, omega arith);
       start_below = λ k t pos. let p = h.start_below k t (let x = B (finishes_at k t) in omega arith) in
           (p.0, p.1, (let x = B (starts_at p.0 t) in let y = p.2 in omega arith));
-      zero_once = λ t there some'. let z = B (zeroes n t) in let o = h.zero_once t there some' in let w = word_is t there in dite (ℕ_discrete (n.reader e) t)
-          (λ is. let q = bit_same (n.reader e) t is in let l = bit_right (c == 0) (n.reader e == t) in
+      counts_once = λ t l there. let z = B (arrives_with n t l) in let o = h.counts_once t l there in let w = word_is t there in
+          let m = h.kept.counted t there in dite (ℕ_discrete (n.reader e) t)
+          (λ is. let q = bit_same (n.reader e) t is in
           let same : slice_index s.words (count_word (n.reader e)) ≡ slice_index s.words (count_word t) = ap (λ i. slice_index s.words (count_word i)) is in
-          let here : slice_index words' (count_word t) ≡ c = omega arith in
-          let old : bit (slice_index s.words (count_word t) == 0) ≡ 0 = ap bit (ne_eqb (slice_index s.words (count_word t)) 0 (λ y. omega arith)) in
-          let now = ap (λ i. bit (i == 0)) here in
-          let add : bit ((c == 0) && (n.reader e == t)) ≡ bit (c == 0) = last_true (c == 0) (n.reader e == t) q in omega arith)
-          (λ ne. let q = bit_apart (n.reader e) t ne in let add = bit_right (c == 0) (n.reader e == t) q in
+          let add : bit ((c == l) && (n.reader e == t)) ≡ bit (slice_index s.words (count_word t) - 1 == l) = last_true (c == l) (n.reader e == t) q
+          ∙ ap (λ i. bit (i - 1 == l)) same in
+          let less = between_less (slice_index s.words (count_word t)) l (length (n.needs t)) (omega arith) (omega arith) in
+          let here : slice_index words' (count_word t) ≡ slice_index s.words (count_word t) - 1 = omega arith in
+          let now = ap (λ i. bit (leb i l && ltb l (length (n.needs t)))) here in omega arith)
+          (λ ne. let q = bit_apart (n.reader e) t ne in let add = bit_right (c == l) (n.reader e == t) q in
           let same : slice_index words' (count_word t) ≡ slice_index s.words (count_word t) = omega arith in
-          let now = ap (λ i. bit (i == 0)) same in omega arith);
+          let now = ap (λ i. bit (leb i l && ltb l (length (n.needs t)))) same in omega arith);
+      seen_between = λ t l there pos. let z = B (saw t l) in let p = h.seen_between t l there (omega arith) in let w = word_is t there in
+          let p0 = p.0 in let p1 = p.1 in (omega arith, omega arith);
       arrived_done = λ x. let p = B (arrives x) in let q = B (finishes (n.source x)) in let o = h.arrived_done x in dite (ℕ_discrete e x)
           (λ is. let b = bit_same e x is in let z : all (arrives x) s.views ≡ all (arrives e) s.views = ap (λ i. all (arrives i) s.views) (sym is) in
           let f : all (finishes (n.source x)) s.views ≡ all (finishes (n.source e)) s.views = ap (λ i. all (finishes (n.source i)) s.views)

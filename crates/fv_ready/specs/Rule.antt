@@ -42,12 +42,16 @@ claims t (Arrived e c) = 0
 claims t (Saw u c) = 0
 claims t (Claimed u b) = bit (u == t)
 
+-- 1 where the deed is a look at the count of task t that found c
+abbrev pub saw : (t c : ℕ) → Deed → ℕ
+saw t c (Stamped k u b) = 0
+saw t c (Arrived e l) = 0
+saw t c (Saw u l) = bit ((l == c) && (u == t))
+saw t c (Claimed u b) = 0
+
 -- 1 where the deed is a look at the count of task t that found 0
 abbrev pub sees : ℕ → Deed → ℕ
-sees t (Stamped k u b) = 0
-sees t (Arrived e c) = 0
-sees t (Saw u c) = bit ((c == 0) && (u == t))
-sees t (Claimed u b) = 0
+sees t = saw t 0
 
 -- 1 where the deed is the arrival at edge e
 abbrev pub arrives : ℕ → Deed → ℕ
@@ -143,12 +147,16 @@ abbrev pub front_edge : {S : Type 0} → List (ℕ × S) → ℕ
 front_edge [] = 0
 front_edge (x ∷ xs) = x.0
 
+-- an arrival into t after which the count was c
+abbrev pub arrives_with : Net → (t c : ℕ) → Deed → ℕ
+arrives_with n t c (Stamped k u b) = 0
+arrives_with n t c (Arrived e l) = bit ((l == c) && (n.reader e == t))
+arrives_with n t c (Saw u l) = 0
+arrives_with n t c (Claimed u b) = 0
+
 -- an arrival into t after which the count was 0
 abbrev pub zeroes : Net → ℕ → Deed → ℕ
-zeroes n t (Stamped k u b) = 0
-zeroes n t (Arrived e c) = bit ((c == 0) && (n.reader e == t))
-zeroes n t (Saw u c) = 0
-zeroes n t (Claimed u b) = 0
+zeroes n t = arrives_with n t 0
 
 -- what an arrival tells: it is of the slot in front, which goes back, and no arrival in the seat's list has had the count 0 of its
 -- reader before

@@ -1,5 +1,5 @@
 -- The whole rule: the parts that a claim was proved under, and the others.
-use Rattle.std.specs.Prelude.{◌≡◌, ℕ, ◌+◌, ◌<◌, ◌≤◌, not, ◌&&◌, List, [], ◌∷◌, ◌++◌, map, replicate, length, slice_index, Option, Some, ◌==◌, ltb}
+use Rattle.std.specs.Prelude.{◌≡◌, ℕ, ◌+◌, ◌<◌, ◌≤◌, not, ◌&&◌, List, [], ◌∷◌, ◌++◌, map, replicate, length, slice_index, Option, Some, ◌==◌, leb, ltb}
 use Rattle.std.specs.List.Sorted.{IsStrictlyIncreasing}
 use mathlib.Core.Option.{some}
 use lib.ListN.{get_elem?}
@@ -15,7 +15,7 @@ use Rattle.fv_ready.specs.declared.view.Deed.{Deed}
 use Rattle.fv_ready.specs.declared.view.Deed.TheVariants.{Stamped, Arrived, Saw, Claimed}
 use Rattle.fv_ready.specs.declared.view.About.{About}
 use Rattle.fv_ready.specs.declared.view.View.{View}
-use Rattle.fv_ready.specs.Rule.{count_word, arrives, starts, finishes, zeroes, all, IsKept}
+use Rattle.fv_ready.specs.Rule.{count_word, saw, arrives, arrives_with, starts, finishes, all, IsKept}
 use Rattle.fv_ready.specs.Shown.{Reached}
 
 -- 1 where the deed is the start of task t with the stamp k
@@ -79,9 +79,12 @@ module _ {C Key : Type 0} (wires : Graph → Wires) (edge_of : C → ℕ) (key_o
     pub drawn : slice_index s.words 0 ≡ total (λ t. all (starts t) s.views + all (finishes t) s.views) (numbers (wires a.tasks.value).net.tasks)
     pub stamped_once : (t : ℕ) → (all (starts t) s.views < 2) × (all (finishes t) s.views < 2)
     pub start_below : (k t : ℕ) → 0 < all (finishes_at k t) s.views → (m : ℕ) × (m < k) × (0 < all (starts_at m t) s.views)
-    -- counts
-    pub zero_once : (t : ℕ) → t < (wires a.tasks.value).net.tasks → 0 < length ((wires a.tasks.value).net.needs t)
-        → all (zeroes (wires a.tasks.value).net t) s.views ≡ bit (slice_index s.words (count_word t) == 0)
+    -- counts: one arrival into a task had each count after it from what the word is now up to one below the number of its edges, and none
+    -- had another; each look found what the word is now, or a number above it that is at most the number of its edges
+    pub counts_once : (t c : ℕ) → t < (wires a.tasks.value).net.tasks → all (arrives_with (wires a.tasks.value).net t c) s.views
+        ≡ bit (leb (slice_index s.words (count_word t)) c && ltb c (length ((wires a.tasks.value).net.needs t)))
+    pub seen_between : (t c : ℕ) → t < (wires a.tasks.value).net.tasks → 0 < all (saw t c) s.views
+        → (slice_index s.words (count_word t) ≤ c) × (c ≤ length ((wires a.tasks.value).net.needs t))
     pub arrived_done : (e : ℕ) → all (arrives e) s.views ≤ all (finishes ((wires a.tasks.value).net.source e)) s.views
     pub after_reads : (k t e : ℕ) → t < (wires a.tasks.value).net.tasks → 0 < all (starts_at k t) s.views
         → 0 < times e ((wires a.tasks.value).net.needs t) → (m : ℕ) × (m < k) × (0 < all (finishes_at m ((wires a.tasks.value).net.source e)) s.views)

@@ -18,6 +18,7 @@ use Rattle.fv_ready.specs.Whole.{IsWhole}
 use Rattle.fv_ready.proofs.lemmas.Claim.{all_at}
 use Rattle.fv_ready.proofs.Arrive.{arrives_kept, word_else, in_words, some_left, none_came, one_less}
 use Rattle.fv_ready.proofs.WholeSteps.{whole_arrived}
+use Rattle.fv_ready.proofs.Gaps.{zero_once}
 
 some_there : (e : ℕ) (xs : List ℕ) → 0 < times e xs → 0 < length xs
 some_there e [] h = absurd (omega arith)
@@ -40,7 +41,7 @@ module _ {C Key : Type 0} (wires : Graph → Wires) (edge_of : C → ℕ) (key_o
       let rise = ws.is_net.rises e inner in
       let among : 0 < length (n.needs r) = let o = ws.is_net.needs_once r e rise.1 in let b = bit_same r r refl in
       let l = bit_left (n.is_inner e) (r == r) inner in some_there e (n.needs r) (omega arith) in
-      let first : done_by (zeroes n r) v ≡ 0 = let z = h.zero_once r rise.1 among in let b = all_at (zeroes n r) s.views id v at in
+      let first : done_by (zeroes n r) v ≡ 0 = let z = zero_once wires edge_of key_of a s h r rise.1 among in let b = all_at (zeroes n r) s.views id v at in
       let c = bit_apart k 0 (λ q. omega arith) in omega arith in
       let here : slice_index s.words word ≡ k = ap (slice_index s.words) ew in
       let less : (slice_index s.words word + (2 ^ 64 - 1)) % 2 ^ 64 ≡ k - 1 = one_less (slice_index s.words word) (omega arith) wide ∙ ap (λ i. i - 1) here in

@@ -1,7 +1,7 @@
 -- A new board meets the whole rule.
 use Rattle.std.proofs.Common.{◌≡◌, ℕ, zero, suc, ◌+◌, ◌<◌, ◌≤◌, Bool, true, false, ◌⊎◌, inl, inr, ⊎_elim, List, [], ◌∷◌, ◌++◌, map}
 use Rattle.std.proofs.Common.{length, replicate, get_or, slice_index, refl, sym, ap, ◌∙◌, subst}
-use Rattle.std.proofs.Common.{arith, Option, Some, None, ltb, lt-ltb, ltb-true, ne_eqb, length-append}
+use Rattle.std.proofs.Common.{arith, Option, Some, None, ltb, lt-ltb, ltb-true, length-append}
 use Rattle.std.proofs.lemmas.List.{length-map}
 use Rattle.std.specs.List.Sorted.{IsStrictlyIncreasing}
 use mathlib.Core.Option.{some, some-injective, some-ne-none}
@@ -26,6 +26,7 @@ use Rattle.fv_ready.specs.declared.view.View.{View}
 use Rattle.fv_ready.specs.Rule.{count_word, claim_word, IsOwn, Fits, IsKept}
 use Rattle.fv_ready.specs.Shown.{worker_of, ShowsSeat, Shows}
 use Rattle.fv_ready.specs.Whole.{first_words, first_view, IsWhole}
+use Rattle.fv_ready.proofs.Gaps.{between_none}
 use Rattle.fv_ready.proofs.lemmas.Taking.{at_below}
 
 get_left : (xs ys : List ℕ) (i : ℕ) → i < length xs → get_or (xs ++ ys) i 0 ≡ get_or xs i 1
@@ -176,7 +177,8 @@ module _ {C Key : Type 0} (wires : Graph → Wires) (edge_of : C → ℕ) (key_o
       drawn = sym (total_nones (λ t. 0) (λ t. refl) (numbers n.tasks));
       stamped_once = λ t. (omega arith, omega arith);
       start_below = λ k t pos. absurd (omega arith);
-      zero_once = λ t h pos. let c = count_is t h in sym (ap bit (ne_eqb (slice_index (first_words n) (count_word t)) 0 (λ z. omega arith)));
+      counts_once = λ t c h. sym (between_none (slice_index (first_words n) (count_word t)) c (need_count n t) (count_is t h));
+      seen_between = λ t c h pos. absurd (omega arith);
       arrived_done = λ e. omega arith;
       after_reads = λ k t e h pos. absurd (omega arith);
       reached = λ _. ([], core.opening n a.workers, refl, shows);

@@ -31,6 +31,7 @@ use Rattle.fv_ready.specs.Carried.{IsMine, HasKey}
 use Rattle.fv_ready.proofs.Back.{back}
 use Rattle.fv_ready.proofs.Joined.{joins, all_joined, had_joined}
 use Rattle.fv_ready.proofs.Regrouped.{whole_so}
+use Rattle.fv_ready.proofs.Gaps.{zero_once}
 use Rattle.fv_ready.proofs.lemmas.Splits.{sum_two, has_first}
 
 -- where the others have nothing, the whole is that of one
@@ -66,7 +67,8 @@ module _ {C Key : Type 0} (wires : Graph → Wires) (edge_of : C → ℕ) (key_o
     drawn = h.drawn;
     stamped_once = h.stamped_once;
     start_below = h.start_below;
-    zero_once = h.zero_once;
+    counts_once = h.counts_once;
+    seen_between = h.seen_between;
     arrived_done = h.arrived_done;
     after_reads = h.after_reads;
     reached = λ boards. let r = h.reached boards in let q = r.3 in
@@ -150,11 +152,11 @@ module _ {C Key : Type 0} (wires : Graph → Wires) (edge_of : C → ℕ) (key_o
           let all_came : total (λ e. all (arrives e) s.views) (n.needs t) ≡ length (n.needs t) = full_total (λ e. all (arrives e) s.views)
           (n.needs t) (λ e p. W (arrives e) ∙ came e p) in
           let z : slice_index s.words (count_word t) ≡ 0 = omega arith in
-          sym w ∙ h.zero_once t there some' ∙ ap bit (eq-eqb (slice_index s.words (count_word t)) 0 z);
+          sym w ∙ zero_once wires edge_of key_of a s h t there some' ∙ ap bit (eq-eqb (slice_index s.words (count_word t)) 0 z);
       won_seen = λ t pos. (h.kept.own id v at).won_seen t pos;
-      zeroes_once = λ t there some'. let w = W (zeroes n t) in let z = h.zero_once t there some' in
+      zeroes_once = λ t there some'. let w = W (zeroes n t) in let z = zero_once wires edge_of key_of a s h t there some' in
           let b = Rattle.fv_graph.proofs.lemmas.Counts.bit_le (slice_index s.words (count_word t) == 0) in omega arith;
-      zeroes_all = λ t there some' pos e needs. let w = W (zeroes n t) in let o = h.zero_once t there some' in
+      zeroes_all = λ t there some' pos e needs. let w = W (zeroes n t) in let o = zero_once wires edge_of key_of a s h t there some' in
           let z = Rattle.fv_graph.proofs.lemmas.Counts.bit_one (slice_index s.words (count_word t)) 0 (omega arith) in let c = h.kept.counted t there in
           sym (W (arrives e)) ∙ full (λ x. all (arrives x) s.views) (λ x. let o = h.kept.arrived_once x in omega arith) (n.needs t) (omega arith) e needs;
     }

@@ -17,9 +17,10 @@ use Rattle.fv_ready.specs.declared.view.Deed.{Deed}
 use Rattle.fv_ready.specs.declared.view.Deed.TheVariants.{Saw}
 use Rattle.fv_ready.specs.declared.view.About.{About}
 use Rattle.fv_ready.specs.declared.view.View.{View}
-use Rattle.fv_ready.specs.Rule.{count_word, wins, loses, sees, arrives, stamps, starts, finishes, all, noted, IsSpent, IsOwn, IsKept, Looks}
+use Rattle.fv_ready.specs.Rule.{count_word, wins, loses, saw, sees, arrives, stamps, starts, finishes, all, noted, IsSpent, IsOwn, IsKept, Looks}
 use Rattle.fv_ready.specs.Whole.{IsWhole}
 use Rattle.fv_ready.proofs.lemmas.Claim.{all_noted, total_ext}
+use Rattle.fv_ready.proofs.Regrouped.{LookedBetween}
 use Rattle.fv_ready.proofs.WholeSteps.{saw_quiet, whole_quiet, reached_same}
 
 module _ {C Key : Type 0} (wires : Graph → Wires) (edge_of : C → ℕ) (key_of : C → Key) (a : About C) where
@@ -74,9 +75,17 @@ module _ {C Key : Type 0} (wires : Graph → Wires) (edge_of : C → ℕ) (key_o
       keyed = g.keyed;
     }
 
+    looked : LookedBetween wires edge_of key_of a s record { words = s.words; homes = s.homes; views = set s.views id (noted v d) }
+    looked x c hx pos = let w = slice_index s.words (count_word t) in let r = A (saw x c) in dite (ℕ_discrete (all (saw x c) s.views) 0)
+        (λ z. let b = both_true (w == c) (t == x) (bit_true ((w == c) && (t == x)) (omega arith)) in
+        let e : t ≡ x = bit_one t x (let q = ap bit b.1 in omega arith) in let f : w ≡ c = bit_one w c (let q = ap bit b.0 in omega arith) in
+        let g : w ≡ slice_index s.words (count_word x) = ap (λ i. slice_index s.words (count_word i)) e in
+        let m = h.kept.counted x hx in (omega arith, omega arith))
+        (λ nz. h.seen_between x c hx (omega arith))
+
     pub whole_seen : IsWhole wires edge_of key_of a record { words = s.words; homes = s.homes; views = set s.views id (noted v d) }
     whole_seen = whole_quiet wires edge_of key_of a s h id v at ab d (saw_quiet n t (slice_index s.words (count_word t))) s.words s.homes
-        kept_seen refl (λ x l. refl)
+        kept_seen refl (λ x l. refl) looked
         (reached_same wires edge_of key_of a s h id v at ab d (λ x. refl) (λ x. refl) (λ x. refl) s.words (λ x l. refl))
 
   pub looks : (m : Me (Option C) (View C)) (t id slots word : ℕ) → m.0.board ≡ Some a → word ≡ count_word t
