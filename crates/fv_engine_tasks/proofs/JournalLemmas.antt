@@ -81,6 +81,7 @@ module _ {g : Tasks} {vectors : ℕ → ℕ} {lines : List Line} (whole : IsWhol
     each_once = λ t l m. h.each t (l, m) ∙ ap bit (lt-ltb t.vector (vectors t.loop_no) (omega (arith, whole.all t.loop_no l, m)));
     no_other = λ line c. subst (λ (x : Line). IsTaskIn g x.task) (there line c) (h.only c.0 c.1);
     stamps = λ n. (few_stamps n 0 lines (λ m l. record { start = h.starts m l ∙ (omega arith); finish = h.finishes m l ∙ (omega arith) })).0;
+    from_zero = λ line c. subst (λ (x : Line). x.finish < 2 * length lines) (there line c) (let f = h.finishes c.0 c.1 in let l = c.1 in omega arith);
     spans = λ line c. subst (λ (x : Line). x.start < x.finish) (there line c) (omega (arith, h.starts c.0 c.1, h.finishes c.0 c.1));
     after_reads = λ a b c d r. after a b c d r;
     starts = λ i k d l m. subst (λ (x : Line). x.start < (get_or lines k d).start) (no_matter i d (omega arith))

@@ -1,6 +1,6 @@
 -- The lines of all workers, sorted by their starts, are the ordered journal.
-use Rattle.std.proofs.Common.{◌≡◌, ◌≢◌, ℕ, zero, suc, ◌+◌, ◌<◌, ◌≤◌, Bool, true, false, not, ◌&&◌, ⊎_elim, List, [], ◌∷◌, map, length}
-use Rattle.std.proofs.Common.{get_or, All, Contains, refl, sym, ap, ◌∙◌, subst, arith, ◌==◌, eq-eqb}
+use Rattle.std.proofs.Common.{◌≡◌, ◌≢◌, ℕ, zero, suc, ◌+◌, ◌*◌, ◌<◌, ◌≤◌, Bool, true, false, not, ◌&&◌, ⊎_elim, List, [], ◌∷◌, map, length}
+use Rattle.std.proofs.Common.{get_or, All, Contains, refl, sym, ap, ◌∙◌, subst, arith, ◌==◌, eq-eqb, ltb, ltb-true}
 use Rattle.std.specs.List.{sum_by, flat_map}
 use Rattle.std.specs.List.Sorted.{IsPermutation, IsNonDecreasingBy}
 use Rattle.std.proofs.lemmas.List.{length-map}
@@ -20,7 +20,7 @@ use Rattle.fv_graph.specs.Words.{passing}
 use Rattle.fv_graph.specs.Reads.{ReadsLaw}
 use Rattle.fv_graph.specs.Graph.{task_at, task_of, source_of, needs_of}
 use Rattle.fv_graph.proofs.lemmas.Graphs.{further}
-use Rattle.fv_graph.proofs.lemmas.Counts.{bit_le, bit_same, bit_apart, bit_swap, bits_agree, both_true, both_of, eq_of}
+use Rattle.fv_graph.proofs.lemmas.Counts.{bit_le, bit_true, bit_same, bit_apart, bit_swap, bits_agree, both_true, both_of, eq_of}
 use Rattle.fv_graph.proofs.lemmas.Counts.{total_append, total_add, total_at, total_none, times_passing}
 use Rattle.fv_graph.specs.Core.{numbers}
 use Rattle.fv_ready.specs.declared.view.Deed.{Deed}
@@ -28,6 +28,7 @@ use Rattle.fv_ready.specs.declared.view.Deed.TheVariants.{Stamped, Arrived, Saw,
 use Rattle.fv_ready.specs.Rule.{done_by, wins, stamps, finishes}
 use Rattle.fv_ready.specs.Whole.{starts_at, finishes_at}
 use Rattle.fv_ready.proofs.lemmas.Claim.{total_ext}
+use Rattle.fv_ready.proofs.lemmas.Numbers.{long_numbers}
 use Rattle.fv_ready.specs.declared.seat.WorkerSeat.{WorkerSeat}
 use Rattle.fv_ready.specs.Seats.{view_of}
 use Rattle.fv_ready.specs.Counted.{told_by}
@@ -44,6 +45,25 @@ total_sum f (x ∷ xs) = ap (λ n. f x + n) (total_sum f xs) ∙ sym (sum_by-con
 
 permuted : {X : Type 0} (f : X → ℕ) (xs ys : List X) → IsPermutation xs ys → total f ys ≡ total f xs
 permuted f xs ys p = total_sum f ys ∙ sum_by-IsPermutation f xs ys p ∙ sym (total_sum f xs)
+
+total_least : {X : Type 0} (f g : X → ℕ) → ((x : X) → f x ≤ g x) → (xs : List X) → total f xs ≤ total g xs
+total_least f g least [] = omega arith
+total_least f g least (x ∷ xs) = let a = least x in let r = total_least f g least xs in omega arith
+
+two_each : (f : ℕ → ℕ) → ((x : ℕ) → f x ≤ 2) → (xs : List ℕ) → total f xs ≤ 2 * length xs
+two_each f most [] = omega arith
+two_each f most (x ∷ xs) = let a = most x in let r = two_each f most xs in omega arith
+
+bit_second : (x y : Bool) → bit (x && y) ≤ bit y
+bit_second true y = omega arith
+bit_second false y = omega arith
+
+-- a finish with a stamp draws the stamp
+finish_stamps : (k t : ℕ) (d : Deed) → finishes_at k t d ≤ stamps k d
+finish_stamps k t (Stamped l u b) = bit_second (not b && (u == t)) (l == k)
+finish_stamps k t (Arrived e c) = omega arith
+finish_stamps k t (Saw u c) = omega arith
+finish_stamps k t (Claimed u b) = omega arith
 
 two_at : {X : Type 0} (f : X → ℕ) (xs : List X) (j k : ℕ) (d : X) → j < k → k < length xs → f (get_or xs j d) + f (get_or xs k d) ≤ total f xs
 two_at f [] j k d l h = absurd (omega arith)
@@ -182,6 +202,28 @@ module _ {C : Type 0} (g : Tasks) where
     as_many = sym (length-map lines (number_in g)) ∙ sym (counted (task_count g) (map (number_in g) lines) numbers_low)
         ∙ ones (λ t. times t (map (number_in g) lines)) 0 (task_count g) (λ t l. once t (omega arith))
 
+    -- there are no more stamps than two for each task
+    drawn : ℕ
+    drawn = total (λ t. told_by (Rattle.fv_ready.specs.Rule.starts t) (map seat_of ws) + told_by (finishes t) (map seat_of ws)) (numbers (task_count g))
+
+    drawn_few : drawn ≤ 2 * task_count g
+    unfolding drawn
+    drawn_few = let l = long_numbers 0 (task_count g) in
+        let t = two_each (λ t. told_by (Rattle.fv_ready.specs.Rule.starts t) (map seat_of ws) + told_by (finishes t) (map seat_of ws))
+        (λ t. let o = h.tells.won_once t in let s = h.tells.started_won t in let f = h.tells.finished_started t in omega arith)
+        (numbers (task_count g)) in omega arith
+
+    -- so a line's finish is below twice the number of lines
+    finish_low : (line : Line) → IsFound ws line → line.finish < 2 * length lines
+    unfolding drawn
+    finish_low line found =
+        let n = line.finish in
+        let m = total_least (λ (w : Worker C). done_by (finishes_at n (number_in g line)) (did w)) (λ w. done_by (stamps n) (did w))
+        (λ w. total_least (finishes_at n (number_in g line)) (stamps n) (finish_stamps n (number_in g line)) (did w).deeds) ws in
+        let s = told_is (stamps n) in let f = found.finish in
+        let b : 0 < bit (ltb n drawn) = subst (λ k. 0 < k) (h.tells.stamped n) (omega arith) in
+        let l = ltb-true n drawn (bit_true (ltb n drawn) b) in let few = drawn_few in let c = as_many in omega arith
+
     -- a line of a task starts after those of the tasks that it reads
     after : (reads : (t : ℕ) → t < task_count g → ReadsLaw g t) → (a b : Line) → IsFound ws a → IsFound ws b → reads_task g b.task a.task ≡ true →
         a.finish < b.start
@@ -210,6 +252,7 @@ module _ {C : Type 0} (g : Tasks) where
         each_once = λ t l v. each_line t lines l (λ k d j. (at_place k d j).there.0) ∙ once (task_at g t.loop_no t.vector) (number_low g t (l, v));
         no_other = λ line c. (of_line line c).there;
         stamps = stamps_once;
+        from_zero = λ line c. finish_low line (of_line line c);
         spans = λ line c. (of_line line c).spans;
         after_reads = λ a b c d r. after reads a b (of_line a c) (of_line b d) r;
         starts = λ i j d l k. dite (ℕ_discrete (get_or lines i d).start (get_or lines j d).start)

@@ -1,5 +1,5 @@
 -- The rule of one worker's deque (this project's profile; Letz, Orlarey, Fober 2010).
-use Rattle.std.specs.Prelude.{◌≡◌, ℕ, ◌+◌, ◌<◌, ◌≤◌, Bool, false, List, []}
+use Rattle.std.specs.Prelude.{◌≡◌, ℕ, ◌+◌, ◌<◌, Bool, false, List, []}
 use mathlib.Core.Option.{some}
 use lib.ListN.{get_elem?}
 use Rattle.fv_graph.specs.Tasks.{bit, total}

@@ -1,5 +1,5 @@
 -- What a gate is told of a block, and when the block's journal is in order (this project's profile).
-use Rattle.std.specs.Prelude.{◌≡◌, ℕ, ◌+◌, ◌<◌, ◌≤◌, Bool, true, ◌&&◌, ◌==◌, List, Contains, AllPairs}
+use Rattle.std.specs.Prelude.{◌≡◌, ℕ, ◌+◌, ◌*◌, ◌<◌, ◌≤◌, Bool, true, ◌&&◌, ◌==◌, List, length, Contains, AllPairs}
 use Rattle.fv_outside.specs.declared.tasks.Task.{Task}
 use Rattle.fv_outside.specs.declared.gate.Line.{Line}
 use Rattle.fv_outside.specs.headline.Tasks.{Tasks, bit, total, reads_task}
@@ -32,12 +32,13 @@ stamped n lines = total (λ line. bit (line.start == n) + bit (line.finish == n)
 abbrev pub StartsRise : List Line → Type 0
 StartsRise lines = AllPairs (λ a b. a.start < b.start) lines
 
--- The journal of a block: one line for each task and no other, no stamp twice, each start before its finish, each task
--- after all that it reads, and the lines in the order of their starts.
+-- The journal of a block: one line for each task and no other, the stamps from 0 on, of which none stands twice, each start before its
+-- finish, each task after all that it reads, and the lines in the order of their starts.
 pub record IsOrdered (tasks : Tasks) (lines : List Line) : Type 0 where
   pub each_once : (t : Task) → t.loop_no < tasks.loops → t.vector < tasks.vectors → total (λ line. bit (is_line_of t line)) lines ≡ 1
   pub no_other : (line : Line) → Contains lines line → (line.task.loop_no < tasks.loops) × (line.task.vector < tasks.vectors)
   pub stamps : (n : ℕ) → stamped n lines ≤ 1
+  pub from_zero : (line : Line) → Contains lines line → line.finish < 2 * length lines
   pub spans : (line : Line) → Contains lines line → line.start < line.finish
   pub after_reads : (a b : Line) → Contains lines a → Contains lines b → reads_task tasks b.task a.task ≡ true → a.finish < b.start
   pub starts : StartsRise lines

@@ -1,4 +1,3 @@
-use Rattle.std.proofs.Common.{◌≡◌}
 use Rattle.crossbeam_deque.specs.Handles.{worker_view, worker_index}
 use Rattle.fv_steal.proofs.Balances.{puts}
 use Rattle.fv_steal.proofs.Pushing.{IsPushed, pushed, is_put, still_owns, index_low, account_after}
