@@ -9,9 +9,11 @@ use Rattle.fv_diagram.specs.headline.Streams.{beside, run}
 use Rattle.fv_diagram.proofs.lemmas.Answers.{answers_alike, answers_wide}
 use Rattle.fv_diagram.proofs.lemmas.Causality.{length_run}
 use Rattle.fv_diagram.proofs.lemmas.Each.{each_map}
-use Rattle.fv_compile.specs.Joined.{part_controls, part_frames}
+use Rattle.fv_compile.specs.Joined.{part_controls}
+use Rattle.fv_compile.specs.headline.Parts.{part_frames}
 use Rattle.fv_compile.specs.headline.Parts.{Part, shifted, side_by_side}
-use Rattle.fv_compile.specs.Parts.{AreWellFormed, PartsAnswer, PartsAnswerAlike, controls_of, inputs_of, outputs_of, own, own_controls, own_frames}
+use Rattle.fv_compile.specs.Parts.{AreWellFormed, PartsAnswer, PartsAnswerAlike, controls_of, own, own_controls, own_frames}
+use Rattle.fv_compile.specs.headline.Parts.{inputs_of, outputs_of}
 use Rattle.fv_compile.proofs.lemmas.Shifted.{inputs_shifted, shifted_answers}
 
 -- a frame is so wide

@@ -20,11 +20,13 @@ use Rattle.fv_propagate.specs.SpanHooks.{control_span}
 use Rattle.fv_propagate.specs.headline.Propagated.{AreTaken}
 use Rattle.fv_compile.specs.declared.job.Job.{Job}
 use Rattle.fv_compile.specs.Jobs as jobs_have
-use Rattle.fv_compile.specs.Joined.{IsJoined, output, part_controls, part_frames}
+use Rattle.fv_compile.specs.Joined.{IsJoined, output, part_controls}
+use Rattle.fv_compile.specs.headline.Parts.{part_frames}
 use Rattle.fv_compile.proofs.lemmas.Values.{part_column, part_frame}
 use Rattle.fv_compile.specs.OfParts.{AreOfParts, IsOfPart, JoinedPropagates}
 use Rattle.fv_compile.specs.headline.Parts.{Part, side_by_side}
-use Rattle.fv_compile.specs.Parts.{controls_of, inputs_of, outputs_of, spans_of}
+use Rattle.fv_compile.specs.Parts.{controls_of, spans_of}
+use Rattle.fv_compile.specs.headline.Parts.{inputs_of, outputs_of}
 use Rattle.fv_compile.proofs.Beside.{Has, parts_answer}
 use Rattle.fv_compile.proofs.Whole.{parts_are_whole}
 

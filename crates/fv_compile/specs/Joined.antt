@@ -7,12 +7,9 @@ use Rattle.fv_signal.specs.declared.signal.Signal.TheVariants.{Input, Control, D
 use Rattle.fv_signal.specs.headline.Value.{Graph, value, IsGraph}
 use Rattle.fv_compile.specs.declared.job.Job.{Job}
 use Rattle.fv_compile.specs.Jobs.{ReadsWithin, inputs_of, controls_of, outputs_of}
+use Rattle.fv_compile.specs.headline.Parts.{part_frames}
 
--- the n columns of the frames behind the first ones
-abbrev pub part_frames : (first n : ℕ) → List Frame → List Frame
-part_frames first n X = map (λ x. take n (drop first x)) X
-
--- the controls behind the first ones
+-- the controls after the first ones
 abbrev pub part_controls : (first : ℕ) → (ℕ → Stream) → ℕ → Stream
 part_controls first c k t = c (first + k) t
 

@@ -5,20 +5,14 @@ use Rattle.fv_propagate.specs.Interval.{Interval}
 use Rattle.fv_diagram.specs.headline.Diagram.{Diagram, inputs, outputs}
 use Rattle.fv_diagram.specs.Diagram.{control_bound, HasNoFreeSlot, IsWellFormed}
 use Rattle.fv_diagram.specs.headline.Streams.{Frame, Stream, column, run}
-use Rattle.fv_compile.specs.Joined.{part_frames, part_controls}
-use Rattle.fv_compile.specs.headline.Parts.{shifted, Part, side_by_side}
+use Rattle.fv_compile.specs.Joined.{part_controls}
+use Rattle.fv_compile.specs.headline.Parts.{shifted, Part, side_by_side, part_frames, inputs_of, outputs_of}
 
 -- it answers what the diagram answers on the controls behind the first n
 abbrev pub ShiftedAnswers : Diagram → Type 0
 ShiftedAnswers d = (n : ℕ) (c e : ℕ → Stream) (X : List Frame) → run (shifted n d) c e X ≡ run d (part_controls n c) e X
 
--- all inputs, outputs and controls of the parts
-abbrev pub inputs_of : List Part → ℕ
-inputs_of ps = sum_by (λ (p : Part). inputs p.diagram) ps
-
-abbrev pub outputs_of : List Part → ℕ
-outputs_of ps = sum_by (λ (p : Part). outputs p.diagram) ps
-
+-- the number of controls of all parts
 abbrev pub controls_of : List Part → ℕ
 controls_of ps = sum_by (λ (p : Part). length p.spans) ps
 

@@ -10,7 +10,7 @@ use Rattle.std.proofs.lemmas.List.{append-nil}
 use Rattle.std.proofs.lemmas.Grind.{flat_map-append}
 use Rattle.fv_base.proofs.lemmas.Lists.{length_table, prefix_trans}
 use Rattle.fv_base.specs.headline.Lists.{IsPrefixOf}
-use Rattle.fv_base.specs.declared.role.Role.TheVariants.{Input}
+use Rattle.fv_base.specs.declared.role.Role.TheVariants.{Input, Output}
 use Rattle.fv_diagram.specs.Frames.{Frame, Stream, rows}
 use Rattle.fv_outside.specs.headline.Desk.{DeskState}
 use Rattle.fv_file_tape.specs.Acts.{Act, Beginning, Hearing, Saying}
@@ -33,7 +33,7 @@ use Rattle.fv_file_tape.specs.declared.file_tape.OutputHead.{OutputHead}
 use Rattle.fv_file_tape.specs.declared.file_tape.Stop.{Stop}
 use Rattle.fv_file_tape.specs.declared.file_tape.Stop.TheVariants as stop
 use Rattle.fv_file_tape.proofs.lemmas.Heard.{rows_fit}
-use Rattle.fv_engine_render.specs.Files.{AreTakenOf, HasPlayed, StopsAt, answered, bare, frames_at, frames_of, output_of}
+use Rattle.fv_engine_render.specs.Files.{AreTakenOf, HasPlayed, StopsAt, answered, answered_to, bare, frames_at, frames_of, output_of}
 use Rattle.fv_engine_render.proofs.Heard.{frames_count, frames_few, frames_taken, heard_frames}
 
 -- ---- numbers
@@ -130,6 +130,12 @@ module _ {d : Diagram} {t : Files} (p : Plays d t) (c : ℕ → Stream) (a : Des
   part : (f : ℕ) (h s : List ℤ) → Hears f h → s ≡ answer_on d c f h → IsPrefixOf (front t s) (answered d c t a)
   part f h s k e = part_is (ap (front t) e ∙ front_is f h k) (output_part t.head d c f X p.prefixes)
 
+  -- whatever the frames, what is answered on them begins with the head
+  head_part : (Y : List Frame) → IsPrefixOf (front t []) (output_of t.head d c Y)
+  head_part Y =
+      let bytes : List ℕ = flat_map (frame_bytes t.head.coding t.head.bits) (run d c no_slots Y) in
+      record { rest = bytes; is = ap (λ w. w ++ bytes) (sym (append-nil (head_of t.head))) }
+
   -- ---- all was played
 
   pub played : (b : DeskState) (done : ℕ) (h : List ℤ) → Streamed t done a b h (answer_on d c t.stated h) → length h ≡ t.stated * inputs d
@@ -206,15 +212,16 @@ module _ {d : Diagram} {t : Files} (p : Plays d t) (c : ℕ → Stream) (a : Des
 
     begin_stops : (f : ℕ) → f ≡ 0 → (e : Stop) → e ≡ stop.Write → CannotBegin t a b → StopsAt d c changes s t f a b e
     begin_stops f none e is k =
-        let head : IsPrefixOf (front t []) (answered d c t a) = record {
-          rest = flat_map (frame_bytes t.head.coding t.head.bits) (run d c no_slots X);
-          is = ap (λ w. w ++ flat_map (frame_bytes t.head.coding t.head.bits) (run d c no_slots X)) (sym (append-nil (head_of t.head)));
-        } in
+        let head : IsPrefixOf (front t []) (answered d c t a) = head_part X in
         rw is (record {
           streams = k.streams;
           few = omega (arith, none);
           output = ⊎_elim (λ o. inl (o, none)) (λ o. inr (o.0, λ x. prefix_trans _ _ _ (o.1 x) head)) k.output;
-          cause = (cannot_part (λ x. head) k.cannot, λ x. none_taken t.input t.held (k.left x));
+          cause = (
+            cannot_part (λ x. head) k.cannot,
+            λ x. none_taken t.input t.held (k.left x),
+            ⊎_elim inl (λ o. inr (λ x. prefix_trans _ _ _ (o.1 x) (head_part (take f X)))) k.output,
+          );
         })
       where
         none_taken : (o : Option InputSamples) (held : Option (List ℕ)) → b.left Input ≡ a.left Input → AreTakenOf o held f (a.left Input) (b.left Input)
@@ -231,12 +238,14 @@ module _ {d : Diagram} {t : Files} (p : Plays d t) (c : ℕ → Stream) (a : Des
         let heard : IsTrue a.tells → Hears f h = λ x. hears f h _ r
         (subst (λ o. AreHeard o t.held h (a.left Input) (drop (length h * (i.bits / 8)) (a.left Input))) (sym is)
         (subst (λ o. AreHeard (Some i) o h (a.left Input) (drop (length h * (i.bits / 8)) (a.left Input))) (sym fresh) (k.heard x))) in
+        let within : f < t.stated = let ahead = at.0 in omega (arith, ahead, same) in
+        let answer : IsTrue a.tells → b.written Output ≡ answered_to d c t f a = λ x. k.said x ∙ ap (front t) at.2 ∙ front_is f h (heard x) in
         record {
           streams = k.streams;
           few = few_of f h r;
           output = inr (k.begun, λ x. part_is (k.said x) (part f h w (heard x) at.2));
           cause = ⊎_elim
-              (λ q. rw q.0 (k.begun, q.1, q.2, rw is refl, fresh))
+              (λ q. rw q.0 (k.begun, q.1, q.2, rw is refl, fresh, λ x. (within, answer x)))
               (λ q. rw q.1 (
                 k.begun,
                 q.2,
@@ -266,7 +275,7 @@ module _ {d : Diagram} {t : Files} (p : Plays d t) (c : ℕ → Stream) (a : Des
                           omega (arith, next, behind, size, block);
                       place_is = y.2;
                       taken = y.1;
-                      written = k.said x ∙ ap (front t) at.2 ∙ front_is f h (heard x);
+                      written = answer x;
                     },
               )) k.cause;
         }
@@ -276,11 +285,17 @@ module _ {d : Diagram} {t : Files} (p : Plays d t) (c : ℕ → Stream) (a : Des
     say_stops f h w more e r all is k =
         let heard : IsTrue a.tells → Hears f h = λ x. hears f h _ r (k.heard x) in
         let whole : IsTrue a.tells → IsPrefixOf (front t (w ++ more)) (answered d c t a) = λ x. part f h (w ++ more) (heard x) all in
+        let said : IsTrue a.tells → IsPrefixOf (b.written Output) (front t (w ++ more)) = λ x.
+        let q = k.said x in part_is q.2 (said_part w more q.0 q.1) in
         rw is (record {
           streams = k.streams;
           few = few_of f h r;
-          output = inr (k.begun, λ x. let q = k.said x in prefix_trans _ _ _ (part_is q.2 (said_part w more q.0 q.1)) (whole x));
-          cause = (cannot_part whole k.cannot, λ x. frames_taken t.input t.held f h (a.left Input) (b.left Input) (k.heard x) (wide f h r));
+          output = inr (k.begun, λ x. prefix_trans _ _ _ (said x) (whole x));
+          cause = (
+            cannot_part whole k.cannot,
+            λ x. frames_taken t.input t.held f h (a.left Input) (b.left Input) (k.heard x) (wide f h r),
+            inr (λ x. subst (IsPrefixOf (b.written Output)) (ap (front t) all ∙ front_is f h (heard x)) (said x)),
+          );
         })
       where
         -- a part of what is said behind w

@@ -75,17 +75,25 @@ pub record IsCut (d : Diagram) (c : ℕ → Stream) (changes : List Change) (s :
   pub taken : new.left Input ≡ []
   pub written : new.written Output ≡ output_of t.head d c (take g (frames_of t (old.left Input)))
 
--- why a run stops behind the blocks up to frame g
+-- the bytes of an output that has what a diagram answers on the frames up to frame g
+abbrev pub answered_to : Diagram → (c : ℕ → Stream) → Files → (g : ℕ) → (old : DeskState) → List ℕ
+answered_to d c t g old = output_of t.head d c (take g (frames_of t (old.left Input)))
+
+-- Why a run stops after the blocks up to frame g. Where the input failed, the output has what these blocks make; where the output
+-- failed, and was begun, it has a part of that from its front.
 abbrev pub IsStopFor : Diagram → (c : ℕ → Stream) → List Change → RunSizes → Files → (g : ℕ) → (old new : DeskState) → Stop → Type 0
 -- a fault of the input, which is left to read
 IsStopFor d c changes s t g old new stop.Read =
     HasBegun old new × IsFaultOfInput old new × KeepsFaultsBut Input old new × IsSome t.input × (t.held ≡ None)
+    × (IsTrue old.tells → (g < t.stated) × (new.written Output ≡ answered_to d c t g old))
 -- its end
 IsStopFor d c changes s t g old new (stop.End place) =
     HasBegun old new × KeepsFaults old new × (i : InputSamples) × (t.input ≡ Some i) × (t.held ≡ None)
     × (IsTrue old.tells → IsCut d c changes s t i g place old new)
 -- a fault of the output, where it was not sure that no call fails and there is room for all that is answered
-IsStopFor d c changes s t g old new stop.Write = CannotSay (answered d c t old) old new × (IsTrue old.tells → HasTaken t g old new)
+IsStopFor d c changes s t g old new stop.Write =
+    CannotSay (answered d c t old) old new × (IsTrue old.tells → HasTaken t g old new)
+    × (KeepsOutput old new ⊎ (IsTrue old.tells → IsPrefixOf (new.written Output) (answered_to d c t g old)))
 
 -- A run stopped behind the blocks up to frame g: the output is as it was, and no block ran, or it was begun, and has a part of the
 -- answer from its front.

@@ -8,7 +8,8 @@ use Rattle.fv_control.specs.declared.refusal.ScriptRefusal.{ScriptRefusal}
 use Rattle.fv_control.specs.declared.refusal.ScriptRefusal.TheVariants.{ControlRange, ControlOrder}
 use Rattle.fv_control.specs.headline.Script.{Request, change_of, asked, is_within, no_control}
 use Rattle.fv_jobs.specs.headline.Labels.{label_of, renamed, controls_of}
-use Rattle.fv_jobs.specs.Labels.{controls_before, labelled_so, moved, RequestsAreOfJobs}
+use Rattle.fv_jobs.specs.Labels.{labelled_so, moved, RequestsAreOfJobs}
+use Rattle.fv_jobs.specs.headline.Changes.{controls_before}
 use Rattle.fv_jobs.proofs.Positions.{position_within}
 use Rattle.fv_jobs.proofs.Found.{found, control_from}
 

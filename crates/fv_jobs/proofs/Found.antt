@@ -15,7 +15,8 @@ use Rattle.std.proofs.lemmas.Slice.Eq.{bytes_eq-Decides}
 use Rattle.fv_base.proofs.lemmas.Lists.{same_front, same_back}
 use Rattle.fv_diagram.specs.declared.control.ControlInfo.{ControlInfo}
 use Rattle.fv_jobs.specs.headline.Labels.{label_of, renamed, labelled, controls_from}
-use Rattle.fv_jobs.specs.Labels.{controls_before, labelled_so, LabelsAreFound, OthersAreNot}
+use Rattle.fv_jobs.specs.Labels.{labelled_so, LabelsAreFound, OthersAreNot}
+use Rattle.fv_jobs.specs.headline.Changes.{controls_before}
 use Rattle.fv_jobs.proofs.Positions.{either, position-append, position-map, position_none}
 
 -- ---- labels differ

@@ -11,8 +11,9 @@ use Rattle.fv_control.specs.headline.Script.{is_within, no_control}
 use Rattle.fv_control.specs.headline.Streams.{value_after}
 use Rattle.fv_control.specs.Laws.{NeverFall, IsOfControls}
 use Rattle.fv_jobs.specs.headline.Labels.{controls_of}
-use Rattle.fv_jobs.specs.Labels.{controls_before}
-use Rattle.fv_jobs.specs.Changes.{changes_of, JobsHear, AreInOrder, AreOfControls}
+use Rattle.fv_jobs.specs.headline.Changes.{controls_before}
+use Rattle.fv_jobs.specs.Changes.{JobsHear, AreInOrder, AreOfControls}
+use Rattle.fv_jobs.specs.headline.Changes.{changes_of}
 use Rattle.fv_jobs.proofs.Found.{control_from}
 
 both_true : (b c : Bool) → (b && c) ≡ true → (b ≡ true) × (c ≡ true)

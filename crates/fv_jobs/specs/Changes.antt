@@ -1,20 +1,12 @@
--- The changes of one job's controls among those of several (this project's profile).
-use Rattle.std.specs.Prelude.{◌≡◌, ℕ, ◌+◌, ◌-◌, ◌<◌, ◌&&◌, nat_le, nat_lt, List, [], length, take, drop, ℤ, Option, Some, None, slice_index_or, if◌then◌else◌}
-use Rattle.std.specs.List.{filter_map, AllByRecursion}
+-- What calls say beside `headline/Changes`: the changes of one job's controls among those of several (this project's profile).
+use Rattle.std.specs.Prelude.{◌≡◌, ℕ, ◌+◌, ◌<◌, List, [], length, take, drop, ℤ, slice_index_or}
+use Rattle.std.specs.List.{AllByRecursion}
 use Rattle.fv_diagram.specs.declared.control.ControlInfo.{ControlInfo}
 use Rattle.fv_control.specs.declared.script.Change.{Change}
 use Rattle.fv_control.specs.headline.Streams.{control_streams}
 use Rattle.fv_control.specs.Laws.{NeverFall, IsOfControls}
 use Rattle.fv_jobs.specs.headline.Labels.{controls_of}
-use Rattle.fv_jobs.specs.Labels.{controls_before}
-
--- a change of one of the n controls behind the first ones, as if there were no others
-abbrev pub own_change : (first n : ℕ) → Change → Option Change
-own_change first n c = if nat_le first c.control && nat_lt c.control (first + n) then Some (record c { control = c.control - first }) else None
-
--- The changes of the n controls behind the first ones, in order.
-abbrev pub changes_of : (first n : ℕ) → List Change → List Change
-changes_of first n changes = filter_map (own_change first n) changes
+use Rattle.fv_jobs.specs.headline.Changes.{controls_before, changes_of}
 
 -- The streams of these controls are those that their own changes make of their own first values.
 abbrev pub JobsHear : Type 0

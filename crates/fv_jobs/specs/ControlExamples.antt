@@ -4,8 +4,9 @@ use Rattle.std.specs.Fmt.{digits}
 use Rattle.fv_diagram.specs.declared.control.ControlInfo.{ControlInfo}
 use Rattle.fv_diagram.specs.declared.control.ControlKind.TheVariants.{HSlider}
 use Rattle.fv_jobs.specs.headline.Labels.{controls_of, label_of}
-use Rattle.fv_jobs.specs.Labels.{controls_before, labelled_so}
-use Rattle.fv_jobs.specs.Changes.{changes_of}
+use Rattle.fv_jobs.specs.Labels.{labelled_so}
+use Rattle.fv_jobs.specs.headline.Changes.{controls_before}
+use Rattle.fv_jobs.specs.headline.Changes.{changes_of}
 
 -- a control of the range 0 to 10
 abbrev pub slider : List ℕ → ControlInfo

@@ -1,17 +1,13 @@
 -- What calls say beside `headline/Labels`: the labels of the controls of several jobs (this project's profile).
-use Rattle.std.specs.Prelude.{◌≡◌, ℕ, ◌+◌, ◌<◌, ◌^◌, List, [], length, take, Option, Some, None}
+use Rattle.std.specs.Prelude.{◌≡◌, ℕ, ◌+◌, ◌<◌, ◌^◌, List, [], length, Option, Some, None}
 use Rattle.std.specs.Prelude.{Result, Ok, Err, position, bytes_eq, slice_index_or}
 use Rattle.std.specs.Option.{option_map}
-use Rattle.std.specs.List.{sum_by}
 use Rattle.fv_diagram.specs.declared.control.ControlInfo.{ControlInfo}
 use Rattle.fv_control.specs.declared.script.Change.{Change}
 use Rattle.fv_control.specs.declared.refusal.ScriptRefusal.{ScriptRefusal}
 use Rattle.fv_control.specs.headline.Script.{Request, heard}
 use Rattle.fv_jobs.specs.headline.Labels.{label_of, controls_of}
-
--- so many controls have the jobs before job k
-abbrev pub controls_before : List (List ControlInfo) → (k : ℕ) → ℕ
-controls_before jobs k = sum_by length (take k jobs)
+use Rattle.fv_jobs.specs.headline.Changes.{controls_before}
 
 -- the first control that has this label
 abbrev pub labelled_so : List ControlInfo → List ℕ → Option ℕ

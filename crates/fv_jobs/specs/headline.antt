@@ -1,3 +1,4 @@
 pub mod Jobs
 pub mod File
 pub mod Labels
+pub mod Changes

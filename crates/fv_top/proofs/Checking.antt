@@ -93,8 +93,8 @@ module _ (name : List ℕ) (p : Compiled) (a b c : DeskState) (q : ReadsFile Pro
           faults = λ x other. r.other_faults x (λ same. other (inr (ap WriteFault (sym same)))) ∙ steady x;
         }
 
-    pub check_done : Appends Report line b c → KeepsFaults b c → Checks name a c
-    check_done r calm =
+    pub check_done : (IsTrue a.tells → b.left Program ≡ []) → Appends Report line b c → KeepsFaults b c → Checks name a c
+    check_done whole r calm =
         let on = q.quiet.goes_on in
         record {
           goes_on = goes_on_then on r.goes_on;
@@ -106,6 +106,7 @@ module _ (name : List ℕ) (p : Compiled) (a b c : DeskState) (q : ReadsFile Pro
           requests = r.requests ∙ q.requests;
           faults = λ x. calm x ∙ steady x;
           begins = r.begins Output ∙ q.quiet.begins Output;
+          whole = λ t. r.left (told_before on t) Program ∙ whole t;
           told = λ t.
               let later = told_before on t in (
                 has t,

@@ -1,5 +1,5 @@
 -- How a run ends once its output is written.
-use Rattle.std.proofs.Common.{◌≡◌, ℕ, ◌+◌, ◌%◌, ◌^◌, ◌<◌, ◌≤◌, List, [], ◌∷◌, ◌++◌, length, take, length-append, sym, ◌∙◌, ap, ap₂, subst, refl}
+use Rattle.std.proofs.Common.{◌≡◌, ◌≢◌, ℕ, ◌+◌, ◌%◌, ◌^◌, ◌<◌, ◌≤◌, List, [], ◌∷◌, ◌++◌, length, take, length-append, sym, ◌∙◌, ap, ap₂, subst, refl}
 use Rattle.std.proofs.Common.{inl, inr, ⊎_elim, append_assoc, arith}
 use Rattle.std.specs.Prelude.{IsTrue, IsSome, is_some, Option, Some, None, option_map}
 use Rattle.std.specs.Option.{ForSome}
@@ -41,11 +41,11 @@ use Rattle.fv_top_report.specs.headline.Lines.{done_line}
 use Rattle.fv_top_report.specs.Parts.{AppendsPart}
 use Rattle.fv_top.specs.headline.Stages.{reads, writes, Halts, fault, judged, Ends, here, later}
 use Rattle.fv_top_files.specs.headline.Loading.{LeavesRest, ReadsWithin, reading}
-use Rattle.fv_top.specs.headline.Promise.{Asks, Plays, IsWhole, Write, Tell, HasRoom, meant, rules_of, stages_of, CanDo, meant_of}
+use Rattle.fv_top.specs.headline.Promise.{Asks, Plays, IsWhole, Write, Tell, HasRoom, meant, meant_to, rules_of, stages_of, CanDo, meant_of}
 use Rattle.fv_top.specs.headline.Promise.{of_job, LeavesOutput, HasPlayedPresent, IsReadBy, IsRead, KeepsOthers}
 use Rattle.fv_top.specs.headline.Played.{HaveRan, RanSoFar}
 use Rattle.fv_top_files.specs.Formats.{format_in}
-use Rattle.fv_top.specs.inner.Prepared.{CanRun, IsForRun, IsOfFiles, HasRun, IsCutIn, EndsAt, frames_there, file_on, file_there, samples_of, coding_heard}
+use Rattle.fv_top.specs.inner.Prepared.{CanRun, IsForRun, IsOfFiles, HasRun, IsCutIn, EndsAt, frames_there, file_on, file_to, file_there, samples_of, coding_heard}
 use Rattle.fv_top.specs.inner.Prepared.{refusal_of_stop}
 use Rattle.fv_top.specs.inner.Running.{Reaches, CountsFaultOf, asked_before, EndsDone, Stopped}
 use Rattle.fv_top.proofs.Reaching.{fits_frames}
@@ -67,6 +67,7 @@ pub record IsReady (words : List (List ℕ)) (run : Run) (m : Compiled) (p : Pre
   pub can : CanRun m p
   pub named : IsForRun run p
   pub of : IsTrue a.tells → IsOfFiles run a b m p
+  pub whole : IsTrue a.tells → (r : Role) → IsReadBy (Playing run) r → r ≢ Input → b.left r ≡ []
 
 -- what the desk was asked for by then
 abbrev asked_by : Run → List Request
@@ -201,7 +202,7 @@ module _ {words : List (List ℕ)} {run : Run} {m : Compiled} {p : Prepared} {a 
     upto = p.sizes.frames;
     counted = counted;
     ran = blocks_by ran;
-    stops = (λ is. refl, λ j at is t. absurd (no_fault j at (writes Report) (sym is)));
+    stops = (λ is. refl, λ j at is t. absurd (no_fault j at (writes Report) (sym is)), λ is some t. absurd cc, λ is some t. absurd cc);
     first = λ is. absurd (not_begun a c (begun_by c begun) (sym same ∙ is));
   }
 
@@ -331,6 +332,11 @@ module _ {words : List (List ℕ)} {run : Run} {m : Compiled} {p : Prepared} {a 
               (plays_by t, record { rest = q.rest; is = sym (meant_by t) ∙ q.is });
         })) k.output
 
+    -- the file of the frames up to this one is what they mean
+    file_to_by : (t : IsTrue a.tells) → file_to m p g (b.left Input) ≡ written_by (meant_to (plays_by t) g) a Output
+    file_to_by t = let q = plays_by t in
+        ap (λ (X : List Frame). file_on m p (take g X)) (there_by t) ∙ file_by t (take g (present_in q.format q.source))
+
     -- the blocks within the frames that are present were played
     abbrev IsCutFor : (t : IsTrue a.tells) (frames : ℕ) (changes : List Change) → Type 0
     IsCutFor t frames changes = IsCutAt run.settings.block frames changes (length (present_in (plays_by t).format (plays_by t).source)) g
@@ -344,14 +350,13 @@ module _ {words : List (List ℕ)} {run : Run} {m : Compiled} {p : Prepared} {a 
     present_by : (t : IsTrue a.tells) (i : InputSamples) (place : ℕ) → HasBegun b c → IsCutIn m p i g place b c → HasPlayedPresent run a c
     present_by t i place begun k =
         let q = plays_by t in
-        let there = present_in q.format q.source in
         record {
           begun = begun_by c begun;
           plays = q;
           frame = g;
           cut = subst (λ n. IsCutFor t n q.changes) (sym (frames_by t))
               (subst (λ ks. IsCutFor t p.sizes.frames ks) (sym (w.of t).changes) (cut_for t i place k));
-          written = k.written ∙ ap (λ (X : List Frame). file_on m p (take g X)) (there_by t) ∙ file_by t (take g there);
+          written = k.written ∙ file_to_by t;
         }
 
     stop_cut : (e : Stop) → EndsAt m p g b c e → (j : Coding) (at : ℕ) → refusal_by e ≡ truncated j at → IsTrue a.tells → HasPlayedPresent run a c
@@ -369,6 +374,22 @@ module _ {words : List (List ℕ)} {run : Run} {m : Compiled} {p : Prepared} {a 
     stop_told stop.Read is = absurd cc
     stop_told (stop.End place) is = absurd (no_fault (coding_heard p.tape.input) place (writes Report) is)
     stop_told stop.Write is = absurd cc
+
+    -- where the input failed, it was written
+    stop_read : (e : Stop) → EndsAt m p g b c e → refusal_by e ≡ ReadFault Input → HasBegun a c → IsTrue a.tells
+        → (q : Plays run a.files) × (c.written Output ≡ written_by (meant_to q g) a Output)
+    stop_read stop.Read k is begun t = (plays_by t, k.cause.5 (told_by t) ∙ file_to_by t)
+    stop_read (stop.End place) k is begun t = absurd (no_fault (coding_heard p.tape.input) place (reads Input) is)
+    stop_read stop.Write k is begun t = absurd cc
+
+    -- and where the output failed, a part of it was
+    stop_write : (e : Stop) → EndsAt m p g b c e → refusal_by e ≡ WriteFault Output → HasBegun a c → IsTrue a.tells
+        → (q : Plays run a.files) × IsPrefixOf (c.written Output) (written_by (meant_to q g) a Output)
+    stop_write stop.Read k is begun t = absurd cc
+    stop_write (stop.End place) k is begun t = absurd (no_fault (coding_heard p.tape.input) place (writes Output) is)
+    stop_write stop.Write k is begun t =
+        ⊎_elim (λ o. absurd (not_begun a c begun (o.begins ∙ w.reaches.quiet.begins Output)))
+        (λ o. (plays_by t, subst (IsPrefixOf (c.written Output)) (file_to_by t) (o (told_by t)))) k.cause.2
 
     stop_faults : (e : Stop) → EndsAt m p g b c e → CountsFaultOf (refusal_by e) a c
     stop_faults stop.Read k r other = k.cause.2 r (λ same. other (inl (ap ReadFault (sym same)))) ∙ w.before r
@@ -404,7 +425,7 @@ module _ {words : List (List ℕ)} {run : Run} {m : Compiled} {p : Prepared} {a 
       upto = g;
       counted = counted;
       ran = blocks_by ran;
-      stops = (stop_told e, λ j at is t. (plays_by t, stop_frames e k j at is t));
+      stops = (stop_told e, λ j at is t. (plays_by t, stop_frames e k j at is t), stop_read e k, stop_write e k);
       first = λ is. ⊎_elim (λ o. o.1) (λ o. absurd (not_begun a c (begun_by c o.0) is)) k.output;
     }
 
@@ -491,6 +512,7 @@ module _ {words : List (List ℕ)} {run : Run} {m : Compiled} {p : Prepared} {a 
             faults = λ r. steady r ∙ k.faults r ∙ w.before r;
             begins = q.begins Output ∙ begun_by c k.begun;
             rest = λ t. rest_told (told_before on t) q (rest_by c p.sizes.frames t (k.taken (told_by t)));
+            whole = λ t r is other. q.left (told_before on t) r ∙ k.streams.left (told_by t) r other ∙ w.whole t r is other;
             told = λ t.
                 let later = told_before on t in
                 let kept = others_by c x in (

@@ -1,4 +1,5 @@
 pub mod Scripts
+pub mod Wholes
 pub mod StageLaws
 pub mod Reaching
 pub mod Preparing
@@ -10,3 +11,4 @@ pub mod Stopping
 pub mod Delivering
 pub mod Refused
 pub mod Completing
+pub mod RackRuns

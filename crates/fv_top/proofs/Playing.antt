@@ -1,6 +1,6 @@
 -- What is played of an input's file, and what is made of it.
 use Rattle.std.proofs.Common.{◌≡◌, ℕ, ◌+◌, ◌-◌, ◌*◌, ◌/◌, ◌<◌, ◌≤◌, ◌==◌, true, false, List, [], ◌++◌, length, take, drop, Option, Some, None, sym, ◌∙◌, ap}
-use Rattle.std.proofs.Common.{refl, subst, arith, inl, inr, ⊎_elim, append_assoc, length-append, length-drop, length-take}
+use Rattle.std.proofs.Common.{refl, subst, arith, inl, inr, ⊎_elim, append_assoc, length-append, length-drop, length-take, take_all}
 use Rattle.std.specs.Prelude.{IsTrue, IsSome, option_map, flat_map, if◌then◌else◌}
 use Rattle.std.specs.Option.{ForSome}
 use Rattle.std.proofs.Math.Nat.{mul-pos, mul-div_cancel, mul_assoc, mul-le-mul_left}
@@ -22,7 +22,7 @@ use Rattle.fv_diagram.specs.headline.Streams.{run}
 use Rattle.fv_diagram.specs.headline.Samples.{no_slots}
 use Rattle.fv_control.specs.headline.Streams.{control_streams}
 use Rattle.fv_engine_render.specs.headline.Render.{initial_of}
-use Rattle.fv_engine_render.specs.Files.{AreTakenOf, HasTaken, HasPlayed, StopsAt, IsStopFor, answered, output_of, frames_at}
+use Rattle.fv_engine_render.specs.Files.{AreTakenOf, HasTaken, HasPlayed, StopsAt, IsStopFor, answered, answered_to, output_of, frames_at}
 use Rattle.fv_file_tape.specs.headline.Tapes.{head_in}
 use Rattle.fv_file_tape.specs.Tapes.{IsInput, Streams, CannotSay, channels_of, files_of}
 use Rattle.fv_file_tape.specs.declared.samples.InputSamples.{InputSamples}
@@ -39,7 +39,7 @@ use Rattle.fv_top_files.specs.headline.Output.{OutputFormat, channels_in, presen
 use Rattle.fv_top_files.specs.headline.Loading.{IsRest, IsWithin}
 use Rattle.fv_top_files.specs.Loading.{IsLeft}
 use Rattle.fv_top_files.specs.Formats.{format_in}
-use Rattle.fv_top.specs.inner.Prepared.{CanRun, HasRun, IsEndFor, EndsAt, samples_of, output_head, coding_heard, frames_there, file_there}
+use Rattle.fv_top.specs.inner.Prepared.{CanRun, HasRun, IsEndFor, EndsAt, samples_of, output_head, coding_heard, frames_there, file_on, file_to, file_there}
 use Rattle.fv_top_program.specs.headline.Compiled.{Compiled}
 
 -- ---- the frames of a file
@@ -254,6 +254,9 @@ module _ (m : Compiled) (p : Prepared) (can : CanRun m p) where
   begins_with : (a : DeskState) → IsPrefixOf (answer_of m p a) (file_there m p (a.left Input))
   begins_with a = file_begins m.diagram (controls_in m p) p.format p.tape.head sized (frames_there p (a.left Input))
 
+  begins_to : (a : DeskState) (g : ℕ) → IsPrefixOf (answered_to m.diagram (controls_in m p) (files_of p.tape) g a) (file_to m p g (a.left Input))
+  begins_to a g = file_begins m.diagram (controls_in m p) p.format p.tape.head sized (take g (frames_there p (a.left Input)))
+
   -- all frames were played
   module _ {a b : DeskState} (k : HasPlayed m.diagram (controls_in m p) (files_of p.tape) a b) where
     there_all : IsTrue a.tells → length (frames_there p (a.left Input)) ≡ p.sizes.frames
@@ -296,23 +299,41 @@ module _ (m : Compiled) (p : Prepared) (can : CanRun m p) where
               let room = on.room t Output in
               unanswered (told_before on t) (unfailing_later Output on t safe) (omega (arith, said, long, room, fits, length-append all (pad_of p)));
         } in
+        let part : IsTrue a.tells → IsPrefixOf (e.written Output) (file_there m p (a.left Input)) = λ t. record {
+          rest = q.1.rest;
+          is = sym (whole t) ∙ ap (λ w. all ++ w) q.1.is ∙ sym (append_assoc all q.0 q.1.rest)
+              ∙ ap (λ w. w ++ q.1.rest) (sym (q.2.appended (told_before on t) ∙ ap (λ w. w ++ q.0) (k.written t)));
+        } in
+        let part_to : IsTrue a.tells → IsPrefixOf (e.written Output) (file_to m p p.sizes.frames (a.left Input)) = λ t.
+        let X = frames_there p (a.left Input) in
+        let count = there_all t in
+        let same : take p.sizes.frames X ≡ X = take_all p.sizes.frames X (omega (arith, count)) in
+        subst (λ Y. IsPrefixOf (e.written Output) (file_on m p Y)) (sym same) (part t) in
         record {
           streams = streams_then k.streams q.2;
-          output = inr (
-            q.2.begins Output ∙ k.begun,
-            λ t. record {
-              rest = q.1.rest;
-              is = sym (whole t) ∙ ap (λ w. all ++ w) q.1.is ∙ sym (append_assoc all q.0 q.1.rest)
-                  ∙ ap (λ w. w ++ q.1.rest) (sym (q.2.appended (told_before on t) ∙ ap (λ w. w ++ q.0) (k.written t)));
-            },
-          );
-          cause = (cannot, λ t. (p.sizes.frames, omega arith, taken_then q.2 t));
+          output = inr (q.2.begins Output ∙ k.begun, part);
+          cause = (cannot, λ t. (p.sizes.frames, omega arith, taken_then q.2 t), inr part_to);
         }
 
   -- it stopped before
   cause_of : (a b : DeskState) (g : ℕ) → g ≤ p.tape.stated → (e : Stop)
       → IsStopFor m.diagram (controls_in m p) p.script p.sizes (files_of p.tape) g a b e → IsEndFor m p g a b e
-  cause_of a b g few stop.Read h = h
+  cause_of a b g few stop.Read h = (
+    h.0,
+    h.1,
+    h.2,
+    h.3,
+    h.4,
+    λ t.
+        let y = h.5 t in
+        let X = frames_there p (a.left Input) in
+        let ahead = y.0 in
+        let stated = can.stated in
+        let frames = can.frames in
+        let most = length-take g X in
+        let part : length (take g X) < p.format.frames = omega (arith, ahead, stated, frames, most) in
+        y.1 ∙ file_short m.diagram (controls_in m p) p.format p.tape.head sized (take g X) part,
+  )
   cause_of a b g few (stop.End place) h = (
     h.0,
     h.1,
@@ -341,6 +362,7 @@ module _ (m : Compiled) (p : Prepared) (can : CanRun m p) where
       unsure = λ t safe fits. let long = prefix_long (begins_with a) in h.0.unsure t safe (omega (arith, long, fits));
     },
     λ t. (g, (let same = can.stated in omega (arith, few, same)), h.1 t),
+    ⊎_elim inl (λ o. inr (λ t. prefix_trans _ _ _ (o t) (begins_to a g))) h.2,
   )
 
   pub files_stop : {a b : DeskState} (g : ℕ) (e : Stop) → StopsAt m.diagram (controls_in m p) p.script p.sizes (files_of p.tape) g a b e → EndsAt m p g a b e

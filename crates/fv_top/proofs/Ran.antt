@@ -1,8 +1,9 @@
 -- The blocks of a run and of a make, from those that were rendered.
 use Rattle.std.proofs.Common.{◌≡◌, ℕ, ◌+◌, ◌-◌, ◌/◌, ◌≤◌, List, [], length, subst, refl, inl, inr, sym, ◌∙◌, arith}
-use Rattle.std.specs.Prelude.{Option, Err}
+use Rattle.std.specs.Prelude.{IsTrue, Option, Err}
 use Rattle.fv_base.specs.declared.limits.TheConstants.{MOST_VECTORS, MOST_WORKERS}
 use Rattle.fv_base.specs.declared.role.Role.TheVariants.{Output, Report}
+use Rattle.fv_base.specs.headline.Lists.{IsPrefixOf}
 use Rattle.fv_outside.specs.headline.Journal.{Told}
 use Rattle.fv_outside.specs.headline.Desk.{DeskState}
 use Rattle.fv_engine_render.specs.Render.{CanBePlayed, CanHave}
@@ -12,7 +13,7 @@ use Rattle.fv_diagram.specs.declared.control.ControlInfo.{ControlInfo}
 use Rattle.fv_engine_render.specs.headline.Plans.{IsGraphOf}
 use Rattle.fv_engine_render.specs.Stops.{IsSetFor, IsSetToPlay}
 use Rattle.fv_engine_render.specs.declared.blocks.RunSizes.{RunSizes}
-use Rattle.fv_engine_render.specs.declared.tape.Played.{Played}
+use Rattle.fv_engine_render.specs.declared.tape.Played.{Played as PlayedBy}
 use Rattle.fv_engine_render.specs.declared.tape.Ready.{Ready}
 use Rattle.fv_interval.specs.headline.Controls.{spans_of}
 use Rattle.fv_top_program.specs.Playables.{IsPlayable}
@@ -24,8 +25,9 @@ use Rattle.fv_top_words.specs.declared.cause.Cause.{Cause}
 use Rattle.fv_top_words.specs.headline.Commands.{Job, Playing, Checking, Making, job_in}
 use Rattle.fv_top_report.specs.declared.refusal.Refusal.{Refusal}
 use Rattle.fv_top_report.specs.declared.refusal.Refusal.TheVariants.{WriteFault}
-use Rattle.fv_top.specs.headline.Promise.{Asks}
-use Rattle.fv_top.specs.headline.Played.{sizes_of, make_sizes, HaveRan, RanSoFar, ComesFirst, HasBlocksSoFar}
+use Rattle.fv_top.specs.headline.Meant.{written_by}
+use Rattle.fv_top.specs.headline.Promise.{Asks, meant_to}
+use Rattle.fv_top.specs.headline.Played.{Played, sizes_of, make_sizes, HaveRan, StopsAt, RanSoFar, ComesFirst, HasBlocksSoFar}
 use Rattle.fv_top.specs.inner.Played.{MakeRan, MakeSoFar}
 
 -- ---- what is played, and its sizes
@@ -40,7 +42,7 @@ can_be_played m p h = record {
 }
 
 -- all is set for each program of which the graph is one
-pub set_to_play : (m : Compiled) (p : Playable) (ks : List ControlInfo) (played : Played) (s : RunSizes) (r : Ready) → IsPlayable m p
+pub set_to_play : (m : Compiled) (p : Playable) (ks : List ControlInfo) (played : PlayedBy) (s : RunSizes) (r : Ready) → IsPlayable m p
     → ks ≡ p.controls.items → played.inputs ≡ p.inputs → played.outputs ≡ p.outputs → played.controls.now ≡ p.controls.items
     → ((d : Diagram) → CanBePlayed d p.graph p.inputs ks → IsSetFor d ks s r) → IsSetToPlay m.diagram played s r
 set_to_play m p ks played s r h same inputs outputs controls ready = record {
@@ -115,15 +117,29 @@ first_later (Playing run) e a b c same first = same ∙ first
 first_later (Checking name) e a b c same first = tt
 first_later (Making voices frames workers) e a b c same first = first
 
+-- nor of what was written
+module _ {a b c : DeskState} (same : c.begins Output ≡ b.begins Output) (kept : IsTrue a.tells → c.written Output ≡ b.written Output) where
+  stops_later : (job : Job) (e : Refusal) (x : Played) (upto : ℕ) → StopsAt job e a b x upto → StopsAt job e a c x upto
+  stops_later (Playing run) e x upto s = (
+    s.0,
+    s.1,
+    λ is begun t. let q = s.2 is (sym same ∙ begun) t in (q.0, kept t ∙ q.1),
+    λ is begun t.
+        let q = s.3 is (sym same ∙ begun) t in
+        (q.0, subst (λ w. IsPrefixOf w (written_by (meant_to q.0 upto) a Output)) (sym (kept t)) q.1),
+  )
+  stops_later (Checking name) e x upto s = s
+  stops_later (Making voices frames workers) e x upto s = s
+
 pub so_far_later : {words : List (List ℕ)} {e : Refusal} {a b c : DeskState} {before after : Option Told} → c.begins Output ≡ b.begins Output
-    → HasBlocksSoFar words e a b before after → HasBlocksSoFar words e a c before after
-so_far_later {words} {e} {a} {b} {c} same (inl h) = inl (h.0, λ job asks. first_later job e a b c same (h.1 job asks))
-so_far_later {e = e} {a = a} {b = b} {c = c} same (inr h) = inr (record {
+    → (IsTrue a.tells → c.written Output ≡ b.written Output) → HasBlocksSoFar words e a b before after → HasBlocksSoFar words e a c before after
+so_far_later {words} {e} {a} {b} {c} same kept (inl h) = inl (h.0, λ job asks. first_later job e a b c same (h.1 job asks))
+so_far_later {e = e} {a = a} {b = b} {c = c} same kept (inr h) = inr (record {
   job = h.job;
   asks = h.asks;
   upto = h.upto;
   counted = h.counted;
   ran = h.ran;
-  stops = h.stops;
+  stops = stops_later same kept h.job e h.ran.played h.upto h.stops;
   first = λ is. h.first (first_later h.job e a c b (sym same) is);
 })

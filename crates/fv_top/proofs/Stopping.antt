@@ -201,6 +201,14 @@ checked {words} {name} asks c = record {
     faults = c.faults;
     begins = c.begins;
     rest = λ t. tt;
+    whole = λ t.
+        elim [
+          | Program ↦ λ is other. c.whole t
+          | Input ↦ λ is other. absurd is
+          | Controls ↦ λ is other. absurd is
+          | Output ↦ λ is other. absurd is
+          | Report ↦ λ is other. absurd is
+        ];
     told = λ t. let x = c.told t in (x.0, refl, λ u. x.1);
   };
 }
@@ -234,6 +242,7 @@ made {words} {voices} {frames} {workers} asks c = record {
     faults = c.faults;
     begins = c.begins;
     rest = λ t. tt;
+    whole = λ t r is other. absurd is;
     told = λ t. ((c.compiled, c.made), refl, c.told);
   };
 }

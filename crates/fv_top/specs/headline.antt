@@ -2,3 +2,4 @@ pub mod Meant
 pub mod Stages
 pub mod Promise
 pub mod Played
+pub mod Jobs

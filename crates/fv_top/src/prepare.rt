@@ -1,8 +1,10 @@
 // What is ready before anything is written.
 
-ghost use Rattle.std.specs.Prelude.{◌≡◌, ◌≤◌, true, IsTrue, IfOk, IfErr, OnOk};
+ghost use Rattle.std.specs.Prelude.{◌≡◌, ◌≢◌, ◌≤◌, [], true, IsTrue, IfOk, IfErr, OnOk};
 ghost use Rattle.std.specs.List.{AllByRecursion};
 ghost use Rattle.std.specs.Option.{ForSome};
+ghost use Rattle.fv_base.specs.declared.role.Role.{Role};
+ghost use Rattle.fv_base.specs.declared.role.Role.TheVariants.{Input};
 ghost use Rattle.fv_diagram.specs.Words.{is_sample_width};
 ghost use Rattle.fv_outside.specs.headline.Desk.{KeepsFaults};
 ghost use Rattle.fv_pcm.specs.headline.Sizes.{data_size, data_limit};
@@ -60,6 +62,9 @@ pub fn prepare<'a, D: Desk>(
     ensures ready { IfOk result (λ p. (c : Compiled) × CanRun c p
         × (IsTrue (D.state desk.old).tells → IsOfFiles (run_view run.now) (D.state desk.old) (D.state desk.new) c p)) }
     ensures named { IfOk result (IsForRun (run_view run.now)) }
+    // The program's file and the script were read to their ends.
+    ensures whole { IfOk result (λ p. IsTrue (D.state desk.old).tells → (r : Role) → IsReadBy (Playing (run_view run.now)) r → r ≢ Input
+        → (D.state desk.new).left r ≡ []) }
     ensures stops { IfErr result (StopsBefore (run_view run.now) (D.state desk.old) (D.state desk.new)) }
 {
     let playable = load_playable(alloc, desk, run.manner.program, run.program)?;

@@ -1,6 +1,6 @@
 // The program's file.
 
-ghost use Rattle.std.specs.Prelude.{◌<◌, ℕ, List, IfOk, IfErr, IsErrOf, Some};
+ghost use Rattle.std.specs.Prelude.{◌≡◌, ◌<◌, ℕ, List, [], IsTrue, IfOk, IfErr, IsErrOf, Some};
 ghost use Rattle.fv_base.specs.declared.role.Role.TheVariants.{Program as program_role};
 ghost use Rattle.fv_outside.specs.headline.Desk.{KeepsFaults};
 ghost use Rattle.fv_top_report.specs.declared.refusal.Refusal.TheVariants.{ReadFault};
@@ -39,6 +39,8 @@ pub fn load_program<D: Desk>(
     ensures spelled { IfOk result (λ p. (text : List ℕ) × IsFile name.now text (D.state desk.old) × IsProgram text (compiled_of p.0)) }
     ensures root { IfOk result (λ p. p.0.root < count_of p.0.diagrams) }
     ensures delays { IfOk result (λ p. AreAccepted (delays_in (compiled_of p.0)) p.1) }
+    // Where it is one, the file was read to its end.
+    ensures whole { IfOk result (λ p. IsTrue (D.state desk.old).tells → (D.state desk.new).left program_role ≡ []) }
     ensures err { IfErr result (StopsLoading program_role (Some name.now) IsOfText (HasNoProgram TextIs name.now (D.state desk.old).files)
         (D.state desk.old) (D.state desk.new)) }
     ensures steady { (IsErrOf result (ReadFault program_role) → ⊥) → KeepsFaults (D.state desk.old) (D.state desk.new) }
@@ -62,6 +64,8 @@ pub fn load_playable<D: Desk>(
 ) -> Result<Playable, Refusal>
     ensures reads { ReadsFile program_role (Some name.now) (D.state desk.old) (D.state desk.new) }
     ensures found { IfOk result (IsProgramOf kind name.now (D.state desk.old)) }
+    // Where it is one, the file was read to its end.
+    ensures whole { IfOk result (λ p. IsTrue (D.state desk.old).tells → (D.state desk.new).left program_role ≡ []) }
     ensures err { IfErr result (StopsLoading program_role (Some name.now) (IsOfKind kind)
         (HasNoProgram (FileIs kind) name.now (D.state desk.old).files) (D.state desk.old) (D.state desk.new)) }
     ensures steady { (IsErrOf result (ReadFault program_role) → ⊥) → KeepsFaults (D.state desk.old) (D.state desk.new) }

@@ -9,6 +9,7 @@ ghost use Rattle.fv_top.specs.headline.Promise.{IfDone, IfRefused, HasDone, IsRe
 ghost use Rattle.fv_top.specs.inner.Promise.{OfWords};
 ghost use Rattle.fv_top.specs.headline.Promise.{HandsOn, IsComplete, IsStrict, IsExact};
 ghost use Rattle.fv_top.specs.headline.Played.{HasBlocks, HasBlocksSoFar};
+ghost use Rattle.fv_top.specs.headline.Jobs.{HasJobs};
 ghost use Rattle.fv_top.specs.inner.Running.{EndsDone, Stopped, ReportsLine};
 
 use crate::check::check;
@@ -16,7 +17,7 @@ use crate::make::run_make;
 use crate::play::play;
 use crate::prepare::prepare;
 use fv_outside::{Desk, Gate, Role};
-use fv_top_program::one_file;
+use fv_top_program::{jobs_answer, one_file, racks_are_jobs};
 use fv_top_report::{Refusal, Status, Tally, report_done, report_refusal};
 use fv_top_words::{Job, Run, job_in};
 use std::alloc::Global;
@@ -121,6 +122,8 @@ pub fn run_faustvec<R: Threads + Wait + Sync, D: Desk, G: Gate + Sync>(
     // A run that is done has asked for its files in order, and has written exactly the file whose samples are the stream
     // function of the program's diagram, under its script and on its input; a check that is done has reported its numbers.
     ensures done { IfDone result (λ tally. HasDone (map string_bytes words.now) tally.frames (D.state desk.old) (D.state desk.new)) }
+    // Of a rack that is done each job's outputs are what its own program answers alone.
+    ensures jobs { IfDone result (λ tally. HasJobs (map string_bytes words.now) (D.state desk.old)) }
     // In every block each loop ran once on each vector, after all that it reads; and so it did in the blocks of a refused run.
     ensures blocks { IfDone result (λ tally. HasBlocks (map string_bytes words.now) tally (D.state desk.old) (G.told gate.old) (G.told gate.new)) }
     ensures so_far { IfRefused result (λ refusal. HasBlocksSoFar (map string_bytes words.now) refusal (D.state desk.old) (D.state desk.new)
@@ -141,6 +144,8 @@ pub fn run_faustvec<R: Threads + Wait + Sync, D: Desk, G: Gate + Sync>(
     ensures strict { IsStrict (map string_bytes words.now) (D.state desk.old) (D.state desk.new) result }
 {
     one_file();
+    racks_are_jobs();
+    jobs_answer();
     let tally = match perform(rt, alloc, words, desk, gate) {
         Ok(tally) => tally,
         Err(refusal) => {

@@ -1,6 +1,6 @@
 // The control script.
 
-ghost use Rattle.std.specs.Prelude.{◌≡◌, ◌^◌, ◌<◌, length, option_copied, IsTrue, IfOk, IfErr, IsErrOf, Ok, Err};
+ghost use Rattle.std.specs.Prelude.{◌≡◌, ◌^◌, ◌<◌, [], length, option_copied, IsTrue, IsSome, IfOk, IfErr, IsErrOf, Ok, Err};
 ghost use Rattle.std.specs.List.{AllByRecursion};
 ghost use Rattle.fv_base.specs.declared.role.Role.TheVariants.{Controls};
 ghost use Rattle.fv_outside.specs.headline.Desk.{KeepsFaults};
@@ -32,6 +32,8 @@ pub fn load_script<D: Desk>(
     requires { length controls.now < 2 ^ 32 }
     ensures reads { ReadsFile Controls (option_copied name.entry) (D.state desk.old) (D.state desk.new) }
     ensures spelled { IfOk result (λ s. IsTrue (D.state desk.old).tells → HasScript (option_copied name.entry) (D.state desk.old).files controls.now (Ok s)) }
+    // A script that is accepted was read to its end.
+    ensures whole { IfOk result (λ s. IsTrue (D.state desk.old).tells → IsSome (option_copied name.entry) → (D.state desk.new).left Controls ≡ []) }
     // Its frames never fall, and it gives controls that are there values within their ranges.
     ensures order { IfOk result (NeverFall 0) }
     ensures lawful { IfOk result (AllByRecursion (IsOfControls controls.now)) }

@@ -16,12 +16,12 @@ use Rattle.fv_diagram.specs.headline.Samples.{no_slots}
 use Rattle.fv_diagram.specs.headline.Streams.{run}
 use Rattle.fv_jobs.specs.Streams.{control_streams}
 use Rattle.fv_interval.specs.headline.Controls.{spans_of, span_of}
-use Rattle.fv_compile.specs.Joined.{part_controls, part_frames}
-use Rattle.fv_jobs.specs.Changes.{JobsHear, changes_of}
+use Rattle.fv_compile.specs.Joined.{part_controls}
+use Rattle.fv_jobs.specs.Changes.{JobsHear}
+use Rattle.fv_jobs.specs.headline.Changes.{changes_of, controls_before}
 use Rattle.fv_jobs.specs.headline.Labels.{controls_from, labelled}
-use Rattle.fv_jobs.specs.Labels.{controls_before}
-use Rattle.fv_compile.specs.headline.Parts.{Part}
-use Rattle.fv_compile.specs.Parts.{PartsAnswer, PartsAreWhole, controls_of, inputs_of}
+use Rattle.fv_compile.specs.headline.Parts.{Part, inputs_of, part_frames}
+use Rattle.fv_compile.specs.Parts.{PartsAnswer, PartsAreWhole, controls_of}
 use Rattle.fv_rules.specs.Runnable.{EvaluatesToRunnables, IsRunnable}
 use Rattle.fv_rules.specs.headline.Rules.{program_value}
 use Rattle.fv_top_report.specs.declared.refusal.Refusal.{Refusal}
@@ -35,13 +35,14 @@ use Rattle.fv_top_program.specs.Program.{IsOneText}
 use Rattle.fv_top_program.specs.headline.Program.{delay_in, delayed, delays_in, first_bad, narrow}
 use Rattle.fv_top_program.proofs.lemmas.AnswerLaws.{kept_is}
 use Rattle.fv_top_program.specs.headline.Racks.{EachIs, WithFirst, part_of, rack_of, refused_job}
-use Rattle.fv_top_program.specs.Runs.{JobsAnswer, RunsAgree, answer_of, first_values, output_at, own_changes, own_frames}
+use Rattle.fv_top_program.specs.Runs.{JobsAnswer, RunsAgree}
+use Rattle.fv_top_program.specs.headline.Runs.{answer_of, first_values, output_at, own_changes, own_frames}
 use Rattle.fv_top_program.proofs.Each.{first_of, then_parts}
 use Rattle.fv_top_program.proofs.lemmas.Sums.{own, sum_by_map}
 
 -- ---- the program of a text
 
-same_width : (p q : Compiled) → narrow p ≡ Ok q → p ≡ q
+pub same_width : (p q : Compiled) → narrow p ≡ Ok q → p ≡ q
 same_width p q is = go (outputs p.diagram == 0) (nat_lt 256 (outputs p.diagram)) (nat_lt 256 (inputs p.diagram)) is
   where
     go : (a b c : Bool) → (if a then Err (no.Channels 0 1) else (if b then Err (no.Channels (outputs p.diagram) 256)
@@ -51,7 +52,7 @@ same_width p q is = go (outputs p.diagram == 0) (nat_lt 256 (outputs p.diagram))
     go false false true e = absurd cc
     go false false false e = cc
 
-same_delays : (p q : Compiled) (o : Option Refusal) → delayed p o ≡ Ok q → p ≡ q
+pub same_delays : (p q : Compiled) (o : Option Refusal) → delayed p o ≡ Ok q → p ≡ q
 same_delays p q (Some r) is = absurd cc
 same_delays p q None is = go (nat_le (delay_in p) 16777216) (no.DelayBudget (delay_in p)) is
   where

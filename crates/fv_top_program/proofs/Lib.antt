@@ -6,3 +6,4 @@ pub mod Racks
 pub mod Answering
 pub mod RackJobs
 pub mod Copies
+pub mod RackParts

@@ -3,3 +3,4 @@ pub mod Answers
 pub mod Program
 pub mod Racks
 pub mod Kinds
+pub mod Runs

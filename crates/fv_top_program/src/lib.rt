@@ -13,6 +13,6 @@ mod text_laws;
 pub use jobs::arity_of;
 pub use playable::{Playable, read_playable};
 pub use programs::{Programs, Read, read_programs};
-pub use rack_laws::{front_is_enough, jobs_answer, one_file};
+pub use rack_laws::{front_is_enough, jobs_answer, one_file, racks_are_jobs};
 pub use text::{check_channels, read_program};
 pub use text_laws::one_program;

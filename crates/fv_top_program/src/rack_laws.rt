@@ -1,7 +1,7 @@
 // Laws of files of programs.
 
 ghost use Rattle.fv_top_program.specs.Kinds.{IsOneFile, IsSomeFile, IsOneOrOther, FrontIsEnough, ProgramIsWhole};
-ghost use Rattle.fv_top_program.specs.Runs.{JobsAnswer, RunsAgree};
+ghost use Rattle.fv_top_program.specs.Runs.{JobsAnswer, RacksAreJobs, RunsAgree};
 
 use crate::one_program;
 use fv_compile::{parts_answer, parts_are_whole};
@@ -26,6 +26,11 @@ pub fn front_is_enough()
     crate::text_laws::front_is_enough();
     fv_jobs::front_is_enough();
 }
+
+/// A file of jobs that is a program is its jobs' programs side by side.
+pub fn racks_are_jobs()
+    ensures { RacksAreJobs }
+{}
 
 /// A job answers, beside the others, what its program answers alone; so it is the same in every run that agrees on its text, its
 /// columns and its changes.

@@ -13,7 +13,8 @@ use Rattle.fv_signal.proofs.lemmas.Values.{values_are_given}
 use Rattle.fv_signal.proofs.lemmas.Solutions.{solutions_are_values}
 use Rattle.fv_compile.specs.declared.graph_copy.Offsets.{Offsets}
 use Rattle.fv_compile.specs.Jobs.{NamesBelow, ReadsWithin}
-use Rattle.fv_compile.specs.Joined.{part_frames, part_controls}
+use Rattle.fv_compile.specs.Joined.{part_controls}
+use Rattle.fv_compile.specs.headline.Parts.{part_frames}
 use Rattle.fv_compile.specs.inner.Copied.{IsImage, IsCopied}
 
 -- ---- the columns of a part

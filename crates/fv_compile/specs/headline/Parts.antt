@@ -1,8 +1,11 @@
 -- Diagrams side by side, each with controls of its own (this project's profile).
-use Rattle.std.specs.Prelude.{ℕ, ◌+◌, List, [], ◌∷◌, length, pos}
+use Rattle.std.specs.Prelude.{ℕ, ◌+◌, List, [], ◌∷◌, length, take, drop, map, pos}
+use Rattle.std.specs.List.{sum_by}
 use Rattle.fv_propagate.specs.Interval.{Interval}
 use Rattle.fv_diagram.specs.Primitive.TheVariants.{Cut}
 use Rattle.fv_diagram.specs.headline.Diagram.{Diagram, Primitive, Constant, Control, Slot, Wave, Table, Bind, Par, Seq, Split, Merge, Rec}
+use Rattle.fv_diagram.specs.headline.Diagram.{inputs, outputs}
+use Rattle.fv_diagram.specs.headline.Streams.{Frame}
 
 -- the diagram with n controls before its own
 abbrev pub shifted : (n : ℕ) → Diagram → Diagram
@@ -32,3 +35,15 @@ nothing = Seq (Constant (pos 0)) (Primitive Cut)
 abbrev pub side_by_side : (n : ℕ) → List Part → Diagram
 side_by_side n [] = nothing
 side_by_side n (p ∷ ps) = Par (shifted n p.diagram) (side_by_side (n + length p.spans) ps)
+
+-- the n columns of the frames after the first ones
+abbrev pub part_frames : (first n : ℕ) → List Frame → List Frame
+part_frames first n X = map (λ x. take n (drop first x)) X
+
+-- the number of inputs of all parts
+abbrev pub inputs_of : List Part → ℕ
+inputs_of ps = sum_by (λ (p : Part). inputs p.diagram) ps
+
+-- the number of outputs of all parts
+abbrev pub outputs_of : List Part → ℕ
+outputs_of ps = sum_by (λ (p : Part). outputs p.diagram) ps

@@ -1,6 +1,7 @@
 -- The blocks of what is asked for (this project's profile).
 use Rattle.std.specs.Prelude.{◌≡◌, ◌⊎◌, ℕ, IsTrue, List, [], length, Option}
-use Rattle.fv_base.specs.declared.role.Role.TheVariants.{Output, Report}
+use Rattle.fv_base.specs.declared.role.Role.TheVariants.{Input, Output, Report}
+use Rattle.fv_base.specs.headline.Lists.{IsPrefixOf}
 use Rattle.fv_outside.specs.headline.Journal.{Told}
 use Rattle.fv_outside.specs.headline.Desk.{DeskState}
 use Rattle.fv_control.specs.declared.script.Change.{Change}
@@ -10,13 +11,15 @@ use Rattle.fv_engine_render.specs.headline.Render.{RanTo}
 use Rattle.fv_top_words.specs.headline.Runs.{Settings}
 use Rattle.fv_top_words.specs.headline.Commands.{Job, Playing, Checking, Making}
 use Rattle.fv_top_report.specs.declared.refusal.Refusal.{Refusal}
-use Rattle.fv_top_report.specs.declared.refusal.Refusal.TheVariants.{WriteFault}
+use Rattle.fv_top_report.specs.declared.refusal.Refusal.TheVariants.{ReadFault, WriteFault}
 use Rattle.fv_top_report.specs.declared.status.Tally.{Tally}
 use Rattle.fv_top_program.specs.headline.Compiled.{Compiled}
 use Rattle.fv_engine_render.specs.headline.Files.{IsCutAt}
 use Rattle.fv_top_files.specs.headline.Output.{present_in}
 use Rattle.fv_top_files.specs.headline.Inputs.{truncated}
-use Rattle.fv_top.specs.headline.Promise.{Asks, Plays, IsMade}
+use Rattle.fv_file_tape.specs.headline.Tapes.{HasBegun}
+use Rattle.fv_top.specs.headline.Meant.{written_by}
+use Rattle.fv_top.specs.headline.Promise.{Asks, Plays, IsMade, meant_to}
 use Rattle.fv_pcm.specs.declared.coding.Coding.{Coding}
 
 -- what is played: a program under these changes of its controls, so many frames, in blocks and vectors of these sizes
@@ -53,9 +56,9 @@ pub record HaveRan (job : Job) (old : DeskState) (upto : ℕ) (r : Ran) (before 
 abbrev pub ran_in : Tally → Ran
 ran_in t = record { blocks = t.blocks; loops = t.loops; loop_runs = t.loop_runs }
 
--- The blocks of what is done, as the tally counts them: those of all its frames; a check has none.
+-- The blocks of what is done, as the tally counts them: those of all its frames. A check has no frames and no blocks.
 abbrev pub BlocksOf : Job → Tally → DeskState → (before after : Option Told) → Type 0
-BlocksOf (Checking name) t old before after = (t.blocks ≡ 0) × (t.loops ≡ 0) × (t.loop_runs ≡ 0) × (after ≡ before)
+BlocksOf (Checking name) t old before after = (t.frames ≡ 0) × (t.blocks ≡ 0) × (t.loops ≡ 0) × (t.loop_runs ≡ 0) × (after ≡ before)
 BlocksOf job t old before after = (x : HaveRan job old t.frames (ran_in t) before after) × (x.played.sizes.frames ≡ t.frames)
 
 -- the words ask for a job, and the tally and what was told are those of its blocks
@@ -65,14 +68,19 @@ pub record HasBlocks (words : List (List ℕ)) (t : Tally) (old : DeskState) (be
   pub blocks : BlocksOf job t old before after
 
 -- Where a run is refused, its blocks ran up to this frame: all of them, where the report failed; those that lie wholly within the
--- frames that are present, where its input ends too early.
-abbrev pub StopsAt : Job → Refusal → DeskState → Played → (upto : ℕ) → Type 0
-StopsAt (Playing run) refusal old x upto =
+-- frames that are present, where its input ends too early; those whose samples the output has, where the input failed; and where the
+-- output failed after it was begun, it has a part of what these blocks make, from its front.
+abbrev pub StopsAt : Job → Refusal → (old new : DeskState) → Played → (upto : ℕ) → Type 0
+StopsAt (Playing run) refusal old new x upto =
     (refusal ≡ WriteFault Report → upto ≡ x.sizes.frames)
     × ((c : Coding) (place : ℕ) → refusal ≡ truncated c place → IsTrue old.tells → (p : Plays run old.files)
     × IsCutAt run.settings.block x.sizes.frames x.changes (length (present_in p.format p.source)) upto)
-StopsAt (Checking name) refusal old x upto = ⊥
-StopsAt (Making voices frames workers) refusal old x upto = upto ≡ x.sizes.frames
+    × (refusal ≡ ReadFault Input → HasBegun old new → IsTrue old.tells → (p : Plays run old.files)
+    × (new.written Output ≡ written_by (meant_to p upto) old Output))
+    × (refusal ≡ WriteFault Output → HasBegun old new → IsTrue old.tells → (p : Plays run old.files)
+    × IsPrefixOf (new.written Output) (written_by (meant_to p upto) old Output))
+StopsAt (Checking name) refusal old new x upto = ⊥
+StopsAt (Making voices frames workers) refusal old new x upto = upto ≡ x.sizes.frames
 
 -- A refusal that comes before any block: of a run before its output is begun, of a make before its report.
 abbrev pub ComesFirst : Job → Refusal → (old new : DeskState) → Type 0
@@ -91,7 +99,7 @@ pub record RanSoFar (words : List (List ℕ)) (refusal : Refusal) (old new : Des
   pub upto : ℕ
   pub counted : Ran
   pub ran : HaveRan job old upto counted before after
-  pub stops : StopsAt job refusal old ran.played upto
+  pub stops : StopsAt job refusal old new ran.played upto
   pub first : ComesFirst job refusal old new → upto ≡ 0
 
 -- What is told by a run that is refused: nothing, where its refusal comes first, or its blocks as far as they ran.

@@ -246,7 +246,16 @@ abbrev pub LeavesRestOf : Job → (old new : DeskState) → Type 0
 LeavesRestOf (Playing run) old new = LeavesRest run.manner.input run.input old.files (new.left Input)
 LeavesRestOf job old new = Unit {0}
 
--- The desk was asked for the files of what was asked for, in their order; all that was meant was written, and nothing else.
+-- the roles that are read for what is asked for: files that it names
+abbrev pub IsReadBy : Job → Role → Type 0
+IsReadBy (Playing run) Program = Unit {0}
+IsReadBy (Playing run) Controls = IsSome run.controls
+IsReadBy (Playing run) Input = IsSome run.input
+IsReadBy (Checking name) Program = Unit {0}
+IsReadBy job r = ⊥
+
+-- The desk was asked for the files of what was asked for, in their order; the program and the script were read to their ends; all
+-- that was meant was written, and nothing else.
 pub record HasDone (words : List (List ℕ)) (frames : ℕ) (old new : DeskState) : Type 0 where
   pub job : Job
   pub asks : Asks words job
@@ -254,6 +263,7 @@ pub record HasDone (words : List (List ℕ)) (frames : ℕ) (old new : DeskState
   pub faults : KeepsFaults old new
   pub begins : BeginsOutput job old new
   pub rest : IsTrue old.tells → LeavesRestOf job old new
+  pub whole : IsTrue old.tells → (r : Role) → IsReadBy job r → r ≢ Input → new.left r ≡ []
   pub told : IsKnown job old → (can : CanDo job old.files) × (frames ≡ (meant_of job old.files can).frames)
       × (IsTrue old.tells → (r : Role) → new.written r ≡ written_by (meant_of job old.files can) old r)
 
@@ -287,15 +297,7 @@ CutsShort words refusal old new =
     (c : Coding) (place : ℕ) → refusal ≡ truncated c place → IsTrue old.tells
     → (run : Run) × Asks words (Playing run) × (HasInput run.manner.input run.input old.files (Err refusal) ⊎ HasPlayedPresent run old new)
 
--- the roles that are read for what is asked for: files that it names
-abbrev pub IsReadBy : Job → Role → Type 0
-IsReadBy (Playing run) Program = Unit {0}
-IsReadBy (Playing run) Controls = IsSome run.controls
-IsReadBy (Playing run) Input = IsSome run.input
-IsReadBy (Checking name) Program = Unit {0}
-IsReadBy job r = ⊥
-
--- and for these words
+-- the roles that are read for what the words ask for
 abbrev pub IsRead : (words : List (List ℕ)) → Role → Type 0
 IsRead words r = (job : Job) × Asks words job × IsReadBy job r
 

@@ -1,11 +1,12 @@
 -- What the code has ready to be played, and how that is played.
-use Rattle.std.specs.Prelude.{◌≡◌, ◌⊎◌, ◌<◌, ◌≤◌, ◌+◌, ℕ, IsTrue, List, [], length, take, Option, Some, None, option_map, is_some}
+use Rattle.std.specs.Prelude.{◌≡◌, ◌⊎◌, ◌<◌, ◌≤◌, ◌+◌, ℕ, IsTrue, IsSome, List, [], length, take, Option, Some, None, option_map, is_some}
 use Rattle.std.specs.List.{AllByRecursion}
 use Rattle.fv_base.specs.declared.role.Role.TheVariants.{Input, Output}
 use Rattle.fv_base.specs.headline.Lists.{IsPrefixOf}
 use Rattle.fv_diagram.specs.Frames.{Frame}
 use Rattle.fv_outside.specs.headline.Journal.{Told}
 use Rattle.fv_outside.specs.headline.Desk.{DeskState, KeepsFaults}
+use Rattle.fv_outside.specs.Desk.{KeepsFaultsBut}
 use Rattle.fv_control.specs.declared.script.Change.{Change}
 use Rattle.fv_control.specs.Laws.{NeverFall, IsOfControls}
 use Rattle.fv_control.specs.headline.Streams.{control_streams}
@@ -19,13 +20,14 @@ use Rattle.fv_engine_render.specs.Stops.{IsSetFor}
 use Rattle.fv_engine_render.specs.declared.blocks.Ran.{Ran}
 use Rattle.fv_file_tape.specs.headline.Tapes.{HasBegun, KeepsOutput}
 use Rattle.fv_file_tape.specs.Tapes.{IsTape, Streams, CannotSay, channels_of, files_of}
+use Rattle.fv_file_tape.specs.Stopping.{IsFaultOfInput}
 use Rattle.fv_file_tape.specs.declared.samples.InputSamples.{InputSamples}
 use Rattle.fv_file_tape.specs.declared.file_tape.FileTape.{FileTape}
 use Rattle.fv_file_tape.specs.declared.file_tape.OutputHead.{OutputHead}
 use Rattle.fv_file_tape.specs.declared.file_tape.Stop.{Stop}
 use Rattle.fv_file_tape.specs.declared.file_tape.Stop.TheVariants as stop
 use Rattle.fv_engine_render.specs.headline.Files.{IsCutAt}
-use Rattle.fv_engine_render.specs.Files.{HasTaken, IsStopFor, frames_of}
+use Rattle.fv_engine_render.specs.Files.{HasTaken, frames_of}
 use Rattle.fv_top_words.specs.headline.Runs.{Run, Settings}
 use Rattle.fv_top_report.specs.declared.refusal.Refusal.{Refusal}
 use Rattle.fv_top_report.specs.declared.refusal.Refusal.TheVariants.{ReadFault, WriteFault}
@@ -123,6 +125,10 @@ file_on c p X = output_file c.diagram (control_streams p.script (initial_of c.co
 abbrev pub file_there : Compiled → Prepared → (left : List ℕ) → List ℕ
 file_there c p left = file_on c p (frames_there p left)
 
+-- that of those up to frame g
+abbrev pub file_to : Compiled → Prepared → (g : ℕ) → (left : List ℕ) → List ℕ
+file_to c p g left = file_on c p (take g (frames_there p left))
+
 -- All frames were there, and were played, and the whole file was written.
 pub record HasRun (c : Compiled) (p : Prepared) (old new : DeskState) : Type 0 where
   pub streams : Streams p.tape.output.now old new
@@ -139,18 +145,21 @@ pub record IsCutIn (c : Compiled) (p : Prepared) (i : InputSamples) (g place : �
   pub short : length (frames_there p (old.left Input)) < p.sizes.frames
   pub place_is : place ≡ i.place + length (old.left Input)
   pub taken : new.left Input ≡ []
-  pub written : new.written Output ≡ file_on c p (take g (frames_there p (old.left Input)))
+  pub written : new.written Output ≡ file_to c p g (old.left Input)
 
--- why it stops behind the blocks up to frame g
+-- Why it stops after the blocks up to frame g. Where the input failed, the output has what these blocks make; where the output failed, and
+-- was begun, it has a part of that from its front.
 abbrev pub IsEndFor : Compiled → Prepared → (g : ℕ) → (old new : DeskState) → Stop → Type 0
 IsEndFor c p g old new stop.Read =
-    IsStopFor c.diagram (control_streams p.script (initial_of c.controls)) p.script p.sizes (files_of p.tape) g old new stop.Read
+    HasBegun old new × IsFaultOfInput old new × KeepsFaultsBut Input old new × IsSome p.tape.input × ((files_of p.tape).held ≡ None)
+    × (IsTrue old.tells → new.written Output ≡ file_to c p g (old.left Input))
 IsEndFor c p g old new (stop.End place) =
     HasBegun old new × KeepsFaults old new × (i : InputSamples) × (p.tape.input ≡ Some i) × ((files_of p.tape).held ≡ None)
     × (IsTrue old.tells → IsCutIn c p i g place old new)
 IsEndFor c p g old new stop.Write =
     CannotSay (file_there c p (old.left Input)) old new
     × (IsTrue old.tells → (n : ℕ) × (n ≤ p.sizes.frames) × HasTaken (files_of p.tape) n old new)
+    × (KeepsOutput old new ⊎ (IsTrue old.tells → IsPrefixOf (new.written Output) (file_to c p g (old.left Input))))
 
 -- It stopped behind the blocks up to frame g: the output is as it was, and no block ran, or it was begun, and has a part of its file
 -- from its front.

@@ -57,6 +57,7 @@ pub record Checks (name : List ℕ) (old new : DeskState) : Type 0 where
   pub others : KeepsOthers (IsReadBy (Checking name)) old new
   pub faults : KeepsFaults old new
   pub begins : new.begins Output ≡ old.begins Output
+  pub whole : IsTrue old.tells → new.left Program ≡ []
   pub told : IsTrue old.tells → (p : HasProgram TextIs name old.files) × ((r : Role) → new.written r ≡ written_by (check_meant p.compiled) old r)
 
 -- It could not be, before its refusal is reported.

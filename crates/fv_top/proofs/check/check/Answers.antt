@@ -47,7 +47,7 @@ returns-in-Ok-clause-done g c =
     let is = same_line g (goal.at.returns-in-Ok-clause-done g c).After-report_numbers in
     check_done c.args.name.now (compiled_of c.in_ok-program.program) (g.D.Desk.state c.args.desk.now) (g.D.Desk.state c.load_program.new.desk)
     (g.D.Desk.state c.report_numbers.new.desk) c.load_program.ensures.reads (c.in_ok-program.ensures.steady (λ e. absurd cc)) c.in_ok-program.ensures.spelled
-    _ is c.in-Ok.ensures.ok c.in-Ok.ensures.steady
+    _ is c.in_ok-program.ensures.whole c.in-Ok.ensures.ok c.in-Ok.ensures.steady
 
 pub returns-clause-stops : goal.returns-clause-stops
 returns-clause-stops g c =

@@ -25,6 +25,7 @@ use Rattle.fv_top.specs.inner.Promise.{IsScriptRefusal}
 use Rattle.fv_top.proofs.Preparing.{AfterProgram, AfterScript, AfterHead, after_program, after_script, after_head}
 use Rattle.fv_top.proofs.Preparing.{stops_program, stops_script, stops_head, stops_fit, stops_memory, files_are, named_is}
 use Rattle.fv_top.proofs.Reaching.{FailsToLoad, fits_frames}
+use Rattle.fv_top.proofs.Wholes.{read_whole}
 use Rattle.fv_top.proofs.prepare.prepare.Given.{Over}
 use Rattle.fv_top.proofs.prepare.prepare.Goals as goal
 use Rattle.fv_top.proofs.prepare.prepare.Goals.{In_ok-playable, In_ok-script, In_ok-loaded}
@@ -201,3 +202,9 @@ returns-clause-ready g c =
     let is = format_is (coding_of run.manner.output) run.settings found.compiled.diagram _ _ c.in_ok-loaded.loaded.head (Ok made) found.playable.inputs
     found.playable.outputs c.in_ok-format.ensures.format in
     (found.compiled, c.in_ok-prepared.ensures.can found.compiled found.playable, files_are w made is refl refl refl c.in_ok-prepared.ensures.made)
+
+pub returns-clause-whole : goal.returns-clause-whole
+returns-clause-whole g c = λ t.
+    let run : Run = run_view c.args.run.now in
+    read_whole {run} c.load_playable.ensures.reads c.load_script.ensures.reads c.load_head.ensures.reads c.in_ok-playable.ensures.whole
+    c.in_ok-script.ensures.whole t

@@ -6,6 +6,7 @@ use Rattle.fv_top_program.specs.headline.Kinds.{FileIs}
 use Rattle.fv_top_program.specs.Kinds.{IsOfKind}
 use Rattle.fv_top.specs.headline.Promise.{HasNoProgram}
 use Rattle.fv_top_files.proofs.lemmas.Loads.{stops_refused}
+use Rattle.fv_top.proofs.Wholes.{none_left}
 use Rattle.fv_top.proofs.program.load_playable.Goals as goal
 
 pub returns-in_err-playable-clause-err : goal.returns-in_err-playable-clause-err
@@ -33,3 +34,10 @@ returns-clause-found g c =
       is = found.1;
       playable = found.2;
     }
+
+pub returns-clause-whole : goal.returns-clause-whole
+returns-clause-whole g c = λ t.
+    let found = c.in_ok-playable.ensures.found in
+    let read = c.in-Ok.ensures.bytes t in
+    let front = c.deref.ensures.value ∙ read.2 in
+    read.3 ∙ none_left 1048577 read.0 c.deref.result.now front (c.front_is_enough.ensures.whole c.args.kind read.0 c.deref.result.now found.0 front found.1)

@@ -6,6 +6,7 @@ use Rattle.fv_top_program.specs.headline.Program.{TextIs}
 use Rattle.fv_top_program.specs.Program.{IsRefusedText, IsOfText}
 use Rattle.fv_top.specs.headline.Promise.{HasNoProgram}
 use Rattle.fv_top_files.proofs.lemmas.Loads.{stops_refused}
+use Rattle.fv_top.proofs.Wholes.{none_left}
 use Rattle.fv_top.proofs.program.load_program.Goals as goal
 
 pub returns-in_err-program-clause-err : goal.returns-in_err-program-clause-err
@@ -27,3 +28,10 @@ returns-clause-spelled g c = (
       read.1 t ∙ ap Some (c.front_is_enough.ensures.whole Alone read.0 c.deref.result.now _ (c.deref.ensures.value ∙ read.2) c.in_ok-program.ensures.found),
   c.in_ok-program.ensures.found,
 )
+
+pub returns-clause-whole : goal.returns-clause-whole
+returns-clause-whole g c = λ t.
+    let read = c.in-Ok.ensures.bytes t in
+    let front = c.deref.ensures.value ∙ read.2 in
+    read.3 ∙ none_left 1048577 read.0 c.deref.result.now front
+    (c.front_is_enough.ensures.whole Alone read.0 c.deref.result.now _ front c.in_ok-program.ensures.found)

@@ -71,7 +71,7 @@ pub returns-in_ok-check-in-Check-clause-blocks : goal.returns-in_ok-check-in-Che
 returns-in_ok-check-in-Check-clause-blocks g c = record {
   job = Checking c.in-Check.program.now;
   asks = check_asked g (goal.at.returns-in_ok-check-in-Check-clause-blocks g c).In-Check;
-  blocks = (refl, refl, refl, refl);
+  blocks = (refl, refl, refl, refl, refl);
 }
 
 -- ---- a make

@@ -23,7 +23,15 @@ ready : (g : Over) (c : In_ok-prepared g) {words : List (List ℕ)} → Asks wor
     → IsReady words (run_view c.args.run) (program g c) c.in_ok-prepared.prepared (g.D.Desk.state c.args.desk.now) (g.D.Desk.state c.prepare.new.desk)
 ready g c asks =
     let prepared = c.in_ok-prepared.ensures in
-    record { asks = asks; reaches = prepared.reaches; before = prepared.steady; can = prepared.ready.1; named = prepared.named; of = prepared.ready.2 }
+    record {
+      asks = asks;
+      reaches = prepared.reaches;
+      before = prepared.steady;
+      can = prepared.ready.1;
+      named = prepared.named;
+      of = prepared.ready.2;
+      whole = prepared.whole;
+    }
 
 -- ---- why it stops
 

@@ -2,7 +2,9 @@ use Rattle.std.proofs.Common.{map}
 use Rattle.std.specs.Prelude.{string_bytes}
 use Rattle.fv_top.specs.inner.Running.{EndsRefused}
 use Rattle.fv_base.specs.declared.role.Role.TheVariants.{Output}
+use Rattle.fv_outside.proofs.lemmas.States.{told_before}
 use Rattle.fv_top.proofs.Ran.{so_far_later}
+use Rattle.fv_top.proofs.RackRuns.{plays_jobs}
 use Rattle.fv_top.proofs.Refused.{ends_refused}
 use Rattle.fv_top.proofs.Completing.{done_exact, done_strict, refused_exact, refused_strict, refused_complete}
 use Rattle.fv_top.proofs.run.run_faustvec.Given.{Over}
@@ -25,7 +27,10 @@ pub returns-in-Err-clause-cause : goal.returns-in-Err-clause-cause
 returns-in-Err-clause-cause g c = (ends g (goal.at.returns-in-Err-clause-cause g c).After-refuse).cause
 
 pub returns-in-Err-clause-so_far : goal.returns-in-Err-clause-so_far
-returns-in-Err-clause-so_far g c = so_far_later (c.refuse.ensures.appends.begins Output) c.in-Err.ensures.so_far
+returns-in-Err-clause-so_far g c =
+    let line = c.refuse.ensures.appends in
+    let on = c.in-Err.ensures.stops.goes_on in
+    so_far_later (line.begins Output) (λ t. line.others (told_before on t) Output (λ e. absurd cc)) c.in-Err.ensures.so_far
 
 pub returns-in-Err-clause-hands_on : goal.returns-in-Err-clause-hands_on
 returns-in-Err-clause-hands_on g c = (ends g (goal.at.returns-in-Err-clause-hands_on g c).After-refuse).hands_on
@@ -60,6 +65,9 @@ returns-clause-others g c = c.in-Ok.ensures.done.others
 
 pub returns-clause-done : goal.returns-clause-done
 returns-clause-done g c = c.in-Ok.ensures.done.played
+
+pub returns-clause-jobs : goal.returns-clause-jobs
+returns-clause-jobs g c = λ run asks rack t p. plays_jobs c.racks_are_jobs.ensures c.jobs_answer.ensures.answer rack p
 
 pub returns-clause-exact : goal.returns-clause-exact
 returns-clause-exact g c = done_exact c.in-Ok.tally c.in-Ok.ensures.done.played

@@ -10,6 +10,7 @@ use Rattle.fv_top_files.specs.headline.Loading.{HasScript}
 use Rattle.fv_top.specs.inner.Promise.{IsScriptRefusal}
 use Rattle.fv_top_files.proofs.lemmas.Loads.{stops_refused}
 use Rattle.fv_top.proofs.Scripts.{script_is, script_refused, no_script}
+use Rattle.fv_top.proofs.Wholes.{script_whole}
 use Rattle.fv_top.proofs.script.load_script.Goals as goal
 
 pub returns-in_err-script-in-None-clause-err : goal.returns-in_err-script-in-None-clause-err
@@ -64,3 +65,11 @@ returns-clause-order g c = (c.scripts_are_lawful.ensures _ _ _ c.in_ok-script.en
 
 pub returns-clause-lawful : goal.returns-clause-lawful
 returns-clause-lawful g c = (c.scripts_are_lawful.ensures _ _ _ c.in_ok-script.ensures.spelled).1
+
+pub returns-in-None-clause-whole : goal.returns-in-None-clause-whole
+returns-in-None-clause-whole g c = λ t. rw c.in-None.is (λ some. absurd cc)
+
+pub returns-clause-whole : goal.returns-clause-whole
+returns-clause-whole g c = λ t some.
+    let read = c.in-Ok.ensures.bytes t in
+    read.3 ∙ script_whole c.args.controls.now read.0 c.deref.result.now c.in_ok-script.script (c.deref.ensures.value ∙ read.2) c.in_ok-script.ensures.spelled
