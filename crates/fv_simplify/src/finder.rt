@@ -5,18 +5,20 @@ use fv_signal::{Graph, Signal, SignalId};
 use indexmap::IndexSet;
 use std::alloc::{AllocError, Global};
 
-/// So many rounds are tried at least.
-const ROUNDS: u64 = 64;
+/// How many rounds are tried at least.
+const FEWEST_ROUNDS: u64 = 64;
 
-/// So many signals are read at least, one after another, before what still falls apart is given up.
-const WORK: u64 = 8_388_608;
+/// How many signals all rounds together may read, where that is more rounds than the fewest. It bounds the work, and lets graphs
+/// of up to some 2,000 signals have as many rounds as they can need.
+const MOST_READINGS: u64 = 8_388_608;
 
-/// An image of each signal: the first one that reads the same, as far as some rounds tell. In the first round all definitions
-/// are taken for one, and in each later one for what the round before says, until nothing changes. Backs that still are told
-/// apart after half of the rounds are left alone.
+/// For each signal the first one that may be equal, by partition refinement: signals that read the same are one class. In the first
+/// round all definitions count as one, and in each later one as what the round before says, until nothing changes. An operand is read
+/// by the same round, so a chain of feedbacks takes few rounds; only a difference that goes from Back to Back takes one for each.
+/// Classes that still fall apart after half of the rounds are given up, so that the others are found in any case.
 pub fn find(alloc: Global, graph: &Graph) -> Result<Vec<SignalId>, AllocError> {
     let count = graph.len() as usize;
-    let rounds = rounds(graph.len());
+    let rounds = most_rounds(graph.len());
     let mut alone = vec![in alloc; false; count]?;
     let mut named = vec![in alloc; SignalId::new(0); count]?;
     for number in 0..rounds {
@@ -32,15 +34,16 @@ pub fn find(alloc: Global, graph: &Graph) -> Result<Vec<SignalId>, AllocError> {
     Ok(named)
 }
 
-// How many rounds are tried where there are so many signals.
-fn rounds(signals: u64) -> u64 {
-    match WORK.checked_div(signals) {
-        Some(rounds) => rounds.max(ROUNDS),
-        None => ROUNDS,
+// How many rounds a graph of so many signals may have.
+fn most_rounds(signals: u64) -> u64 {
+    match MOST_READINGS.checked_div(signals) {
+        Some(rounds) => rounds.max(FEWEST_ROUNDS),
+        None => FEWEST_ROUNDS,
     }
 }
 
-// The first signals that read the same, where definitions are taken for these signals.
+// One round: for each signal the first one that reads the same, where these signals are read for definitions. A Back that is left
+// alone stands for itself.
 fn round(
     alloc: Global,
     graph: &Graph,
@@ -63,7 +66,7 @@ fn round(
     Ok(images)
 }
 
-// The first signal with this reading: s, where there is none before.
+// The first signal with this reading, which is s where none before it has it. The place of each reading is that of its first signal.
 fn first(
     readings: &mut IndexSet<Signal>,
     firsts: &mut Vec<SignalId>,
@@ -80,7 +83,7 @@ fn first(
     })
 }
 
-// Leaves the Backs alone that were taken for one and no longer are, and all that were taken for one with them.
+// Leaves alone each Back of a class that fell apart in this round.
 fn leave(
     alloc: Global,
     graph: &Graph,

@@ -6,13 +6,15 @@ ghost use Rattle.fv_simplify.specs.Folding.{IsFolding};
 ghost use Rattle.fv_simplify.specs.Folded.{IsFoldedOf};
 ghost use Rattle.fv_simplify.specs.Kept.{KeepsAll};
 
-use crate::check::folds;
 use crate::finder::find;
+use crate::foldings::folds;
 use crate::redirected::redirect;
 use fv_signal::{Graph, SignalId};
 use std::alloc::{AllocError, Global};
 
-/// The graph in which signals that are found equal are read as one, also where they feed back.
+/// The graph in which signals that are found equal are read as one, also where they feed back. It has as many signals, groups and
+/// tables; the ones that nothing reads any more are for a rebuilding to leave out. Where the images that were found do not pass
+/// the test, the graph stays as it is.
 pub fn fold(alloc: Global, graph: &Graph) -> Result<Graph, AllocError>
     ensures folded { IfOk result (IsFoldedOf graph.now) }
     ensures keeps { IfOk result (KeepsAll graph.now) }

@@ -1,11 +1,11 @@
-//! Simpler graphs of signals: what one is, why a graph that is rebuilt twice is one, and the pass that rebuilds. Between the two, equal
-//! signals are read as one, also where they feed back.
+//! Simpler graphs of signals: what one is, why a graph that is rebuilt twice is one, and the pass that rebuilds. Between the two
+//! rebuildings equal signals are read as one, also where they feed back.
 #![tactic(auto)]
 
-mod check;
 mod finder;
 mod fold_laws;
 mod folded;
+mod foldings;
 mod image;
 mod kept_operand;
 mod late;
@@ -21,12 +21,12 @@ mod short;
 mod simpler;
 mod widths;
 
-pub use check::folds;
 pub use finder::find;
 pub use fold_laws::{
     folded_values, redirected_is_graph, redirected_keeps_all, redirected_keeps_values,
 };
 pub use folded::fold;
+pub use foldings::folds;
 pub use kept_operand::choice;
 pub use late::delayed;
 pub use laws::{a_pass_rebuilds, images_are_put};

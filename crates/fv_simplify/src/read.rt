@@ -1,4 +1,4 @@
-// What a signal reads.
+// What a signal reads, where images are read in the place of its operands.
 
 ghost use Rattle.std.specs.Prelude.{◌≡◌, ◌<◌, length};
 ghost use Rattle.fv_base.specs.headline.Lists.{at};
@@ -18,7 +18,8 @@ pub(crate) fn image_of(images: &[SignalId], s: SignalId) -> SignalId
     }
 }
 
-/// What a signal reads, over the images of its operands, and of the definition that it names.
+/// The signal with the images of its operands; a Back and a Member with the image of the definition that they name, in the place
+/// of group and number. Two signals that read the same give the same values, as far as the images do.
 pub(crate) fn read(graph: &Graph, images: &[SignalId], named: &[SignalId], s: SignalId) -> Signal
     requires { s < length graph.now.signals }
     ensures { result ≡ reading graph.now (at images.now) (at named.now) (node graph.now s) }

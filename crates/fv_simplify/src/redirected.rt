@@ -10,7 +10,8 @@ use crate::read::image_of;
 use fv_signal::{Graph, Signal, SignalId};
 use std::alloc::{AllocError, Global};
 
-/// The graph whose nodes, definitions and outputs read the images.
+/// The graph whose nodes, definitions and outputs read the images, one for each signal. All signals stay at their places, so
+/// nothing has to be numbered anew.
 pub fn redirect(alloc: Global, graph: &Graph, images: &[SignalId]) -> Result<Graph, AllocError>
     requires { IsFolding graph.now (at images.now) }
     ensures { IfOk result (λ h. h ≡ redirected graph.now (at images.now)) }

@@ -9,7 +9,7 @@ use std::test::Fail;
 use test_graphs::{Line, Sound, given, graph_of};
 
 // A shift register of so many cells, each of which is the one before a sample earlier and 1 more; the first one has the input.
-// Behind it two sums of the input, which are equal.
+// After it two running sums of the input, which are equal.
 fn register(alloc: Global, cells: u64) -> Result<Graph, Fail> {
     let mut lines = Vec::from_slice(alloc, &[Line::Input(0), Line::Const(1)])?;
     let mut members = Vec::from_slice(alloc, &[0u64])?;
@@ -62,36 +62,54 @@ fn a_long_register_stays(rt: HostRuntime) -> Result<(), Fail> {
     Ok(())
 }
 
-// So many equal counters behind one another: each counts by the sum of the one before.
-fn nested(alloc: Global, deep: u64) -> Result<Vec<Line>, AllocError> {
+// So many chains of counters, each as deep: a counter counts by the one before it, and the first ones by the input.
+fn chains(alloc: Global, count: u64, deep: u64) -> Result<Vec<Line>, AllocError> {
     let mut lines = Vec::from_slice(alloc, &[Line::Input(0)])?;
-    let mut last = 0u64;
-    for group in 0..deep {
-        let place = lines.len() as u64;
-        lines.push(Line::Back(group, 0))?;
-        lines.push(Line::Pair(Op::Add, place, last))?;
-        last = place.wrapping_add(1);
+    let mut group = 0u64;
+    for _ in 0..count {
+        let mut last = 0u64;
+        for _ in 0..deep {
+            let place = lines.len() as u64;
+            lines.push(Line::Back(group, 0))?;
+            lines.push(Line::Pair(Op::Add, place, last))?;
+            last = place.wrapping_add(1);
+            group = group.wrapping_add(1);
+        }
     }
     Ok(lines)
 }
 
-#[test]
-fn a_deep_chain_takes_few_rounds(rt: HostRuntime) -> Result<(), Fail> {
-    let alloc = rt.alloc();
-    let lines = nested(alloc, 2000)?;
+// The graph of these chains, with the last counter for its output.
+fn chained(alloc: Global, count: u64, deep: u64) -> Result<Graph, Fail> {
+    let lines = chains(alloc, count, deep)?;
     let mut groups = Vec::new(alloc);
-    for group in 0..2000u64 {
+    for group in 0..count.wrapping_mul(deep) {
         groups.push([group.wrapping_mul(2).wrapping_add(2)])?;
     }
     let mut lists = Vec::new(alloc);
     for group in &groups {
         lists.push(group.as_slice())?;
     }
-    let graph = graph_of(alloc, &lines, &lists, &[4000])?;
-    let images = find(alloc, &graph)?;
-    assert!(rt; folds(&graph, &images));
-    for (place, image) in images.iter().enumerate() {
-        assert_eq!(rt; image.number(), place as u64);
+    let last = lines.len() as u64;
+    graph_of(alloc, &lines, &lists, &[last.wrapping_sub(1)])
+}
+
+#[test]
+fn chains_are_read_as_one(rt: HostRuntime) -> Result<(), Fail> {
+    let alloc = rt.alloc();
+    for (count, deep) in [(1, 2000), (2, 100), (40, 50), (500, 2)] {
+        let graph = chained(alloc, count, deep)?;
+        let images = find(alloc, &graph)?;
+        assert!(rt; folds(&graph, &images), "{count} {deep}");
+        // The signals of each chain are those of the first one; signal 0 is the input.
+        let long = deep.wrapping_mul(2);
+        for (place, image) in images.iter().enumerate() {
+            let first = match (place as u64).checked_sub(1) {
+                Some(after) => after.wrapping_rem(long).wrapping_add(1),
+                None => 0,
+            };
+            assert_eq!(rt; (count, deep, image.number()), (count, deep, first));
+        }
     }
     Ok(())
 }

@@ -11,7 +11,7 @@ use test_diagrams::program_of;
 use test_graphs::{Sound, given};
 
 // Definitions, and expressions of as many signals once they are simpler: the second one has what the first one has.
-const ROWS: [(&str, &str, &str); 5] = [
+const ROWS: [(&str, &str, &str); 9] = [
     // Noise, four times.
     (
         "random = +(12345) ~ *(1103515245);",
@@ -24,17 +24,42 @@ const ROWS: [(&str, &str, &str); 5] = [
         "lfsr",
         "lfsr, lfsr, lfsr, lfsr",
     ),
-    // Feedback in feedback.
+    // Feedback in feedback,
     (
         "inner = + ~ (_ / 2); twice = (+ : inner) ~ (_ / 3);",
         "_ : twice",
         "_ <: twice, twice, (inner, twice : !, _)",
     ),
-    // Two members that read each other, in either order.
+    // and a chain of such.
     (
-        "pair = (+, -) ~ (_, _); other = _, _ : (-, +) ~ (_, _);",
+        "inner = + ~ (_ / 2); twice = (+ : inner) ~ (_ / 3); chain = seq(i, 9, twice);",
+        "_ : chain",
+        "_ <: chain, chain, chain",
+    ),
+    // Two members that read each other,
+    (
+        "pair = (+, -) ~ (_, _);",
         "_, _ : pair",
         "_, _ <: pair, pair",
+    ),
+    // and the same two in another order.
+    (
+        "a(p, q, x) = p + q + x; b(p, q, y) = p - q * 3 + y;
+         pair(p, q, x, y) = a(p, q, x), b(p, q, y); other(q, p, x, y) = b(p, q, y), a(p, q, x);",
+        "_, _ : (pair ~ (_, _))",
+        "_, _ <: (pair ~ (_, _)), (other ~ (_, _))",
+    ),
+    // A group that reads another.
+    (
+        "clock = +(1) ~ _; held = + ~ (_ / 2);",
+        "clock : held",
+        "(clock : held), (clock : held), (clock <: held, _ : _, !)",
+    ),
+    // Tables that are written at equal places with equal numbers.
+    (
+        "clock = +(1) ~ _; cell = (\\(y).(rwtable(4, 7, clock, y + 1, clock + 1))) ~ _;",
+        "cell",
+        "cell, cell, cell",
     ),
     // A number that is written in two ways.
     (
@@ -84,20 +109,35 @@ fn equal_voices_are_one(rt: HostRuntime) -> Result<(), Fail> {
     Ok(())
 }
 
-// Other numbers are other voices.
+// Definitions and three outputs, of which the first and the last are equal and the other one is not.
+const OTHERS: [(&str, &str); 4] = [
+    (
+        "random(n) = +(n) ~ *(1103515245);",
+        "random(1), random(2), random(1)",
+    ),
+    // They differ by an operation, by how late a delay is, and by the place at which a table is written.
+    (
+        "lower = - ~ (_ / 2); upper = + ~ (_ / 2);",
+        "(9 : lower), (9 : upper), (9 : lower)",
+    ),
+    ("late(n) = (+(1) : @(n)) ~ _;", "late(1), late(2), late(1)"),
+    (
+        "clock = +(1) ~ _; cell(n) = (\\(y).(rwtable(4, 7, clock + n, y + 1, clock))) ~ _;",
+        "cell(1), cell(2), cell(1)",
+    ),
+];
+
 #[test]
 fn other_voices_are_others(rt: HostRuntime) -> Result<(), Fail> {
     let alloc = rt.alloc();
-    let graph = graph_of(
-        alloc,
-        "random(n) = +(n) ~ *(1103515245);",
-        "random(1), random(2), random(1)",
-    )?;
-    let folded = fold(alloc, &graph)?;
-    let [a, b, c] = folded.outputs() else {
-        return Err("three".into());
-    };
-    assert!(rt; a == c && a != b);
+    for (definitions, expression) in &OTHERS {
+        let graph = graph_of(alloc, definitions, expression)?;
+        let folded = fold(alloc, &graph)?;
+        let [a, b, c] = folded.outputs() else {
+            return Err("three".into());
+        };
+        assert!(rt; a == c && a != b, "{expression}");
+    }
     Ok(())
 }
 

@@ -4,7 +4,7 @@ use Rattle.fv_share.specs.Drafts.{same}
 use Rattle.fv_share.proofs.lemmas.Same.{same_equal, same_self}
 use Rattle.fv_analysis.specs.headline.Stands.{node}
 use Rattle.fv_simplify.specs.Folding.{reading}
-use Rattle.fv_simplify.proofs.check.is_alike.Goals as goal
+use Rattle.fv_simplify.proofs.foldings.is_alike.Goals as goal
 
 pub returns-then-number : goal.returns-then-number
 returns-then-number c =
