@@ -59,6 +59,7 @@ same_order g h lines same o = record {
   each_once = λ t l m. o.each_once t (omega (arith, same.loops, l)) (omega (arith, same.vectors, m));
   no_other = λ line c. let q = o.no_other line c in (omega (arith, same.loops, q.0), omega (arith, same.vectors, q.1));
   stamps = o.stamps;
+  from_zero = o.from_zero;
   spans = o.spans;
   after_reads = λ a b c d r. o.after_reads a b c d (same_reads b.task a.task ∙ r);
   starts = o.starts;
