@@ -127,7 +127,7 @@ def changes_of(text, controls):
     controls = {control.label: control for control in controls}
     changes, least = [], 0
     for number, line in enumerate(text.split(b"\n"), 1):
-        line = line.removesuffix(b"\r")
+        line = line[:-1] if line.endswith(b"\r") else line
         if not line or line.startswith(b"#"):
             continue
         match = LINE.fullmatch(line)

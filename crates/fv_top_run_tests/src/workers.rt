@@ -132,7 +132,7 @@ static ECHOES: [(Echo, &str, &str, &str); 8] = [
     (QUARTERS, "--block=512", "--vector=32", "--workers=16"),
 ];
 
-// By sixteen workers the built program plays a part of them by frames (`.ci/check-program`), since that takes sixteen threads for each.
+// By sixteen workers the built program plays a part of them by frames (`tests/check-program`), since that takes sixteen threads for each.
 #[test]
 fn echoes_by_each_size(rt: HostRuntime) -> Result<(), Fail> {
     for (echo, block, vector, workers) in &ECHOES {

@@ -3,7 +3,7 @@
 scripts of 1 MiB, heads that state much and have little. Prints a table of the processor's time and the memory of each; what takes
 more than 10 seconds or 1.5 GB is told, and ends it with status 1.
 
-    tests/much.py [--program FILE] [--only WORD] [--first N] [--seconds N]"""
+    tests/outside/much.py [--program FILE] [--only WORD] [--first N] [--seconds N]"""
 import argparse
 import os
 import resource
@@ -13,7 +13,10 @@ import subprocess
 import sys
 import tempfile
 
-TOP = os.path.join(os.path.dirname(os.path.abspath(__file__)), "..")
+sys.dont_write_bytecode = True
+sys.path.insert(0, os.path.join(os.path.dirname(os.path.abspath(__file__)), ".."))
+from part import PROGRAM, need_program
+
 MOST = 1_048_576
 MOST_SECONDS, MOST_KIB = 10, 1_500_000
 CONTROL = 'hslider("%d",0,0,1,1)'
@@ -171,12 +174,13 @@ def measured(program, folder, words, seconds):
 
 def main():
     parser = argparse.ArgumentParser(description=__doc__, formatter_class=argparse.RawDescriptionHelpFormatter)
-    parser.add_argument("--program", default=os.path.join(TOP, "dist/x86_64-linux/faustvec"))
+    parser.add_argument("--program", default=PROGRAM)
     parser.add_argument("--only", default="", help="a word of what is tried")
     parser.add_argument("--first", type=int, default=0, help="the row to begin with")
     parser.add_argument("--seconds", type=int, default=60, help="how much of the processor's time each may take before it is ended")
     options = parser.parse_args()
     program, status = os.path.abspath(options.program), 0
+    need_program(program)
     resource.setrlimit(resource.RLIMIT_AS, (4 << 30, 4 << 30))
     print("| what | answer | s | MB |\n|---|---|---|---|")
     rows = [(told, text, wave(1, 16, 4, b"\1\0\2\0"), None, []) for told, text in TEXTS] + sounds()
