@@ -20,6 +20,7 @@ from part import CARRIED, PROGRAM, TOP, need_program
 
 CASES, CASES_EACH = 2000, 500
 SECONDS = 600
+running = set()
 COUNTS = re.compile(r"(\d+) passed, (\d+) failed")
 
 
@@ -31,17 +32,26 @@ def parts():
     return found
 
 
+def said_by(child):
+    """What a part says until its end, or until its time is over, and then that."""
+    running.add(child)
+    try:
+        return child.communicate(timeout=SECONDS)[0].decode(errors="backslashreplace")
+    except subprocess.TimeoutExpired:
+        os.killpg(child.pid, signal.SIGKILL)
+        return child.communicate()[0].decode(errors="backslashreplace") + f"it did not end within {SECONDS} s"
+    finally:
+        running.discard(child)
+
+
 def ended(words):
     """What a part said, without its last line, and what it counted; where it did not come to that line, one that failed."""
     try:
+        # a session of its own, so that it can be ended with all that it started
         child = subprocess.Popen(words, cwd=TOP, stdin=subprocess.DEVNULL, stdout=subprocess.PIPE, stderr=subprocess.STDOUT, start_new_session=True)
     except OSError as error:
         return f"{words[0]} cannot be started: {error.strerror}", 0, 1
-    try:
-        said = child.communicate(timeout=SECONDS)[0].decode(errors="backslashreplace").rstrip("\n")
-    except subprocess.TimeoutExpired:
-        os.killpg(child.pid, signal.SIGKILL)
-        return child.communicate()[0].decode(errors="backslashreplace") + f"{words[0]} did not end within {SECONDS} s", 0, 1
+    said = said_by(child).rstrip("\n")
     told, _, last = said.rpartition("\n")
     counts = COUNTS.fullmatch(last)
     if counts and (child.returncode != 0) == (int(counts[2]) > 0):
@@ -83,10 +93,17 @@ def run_all(chosen, shown):
     workers = len(os.sched_getaffinity(0))
     with concurrent.futures.ThreadPoolExecutor(workers) as pool:
         shown.at()
-        running = {pool.submit(timed, words): name for name, words in chosen.items()}
-        for done in concurrent.futures.as_completed(running):
-            told, passed, failed, seconds = done.result()
-            shown.has_ended(running[done], seconds, told, passed, failed)
+        names = {pool.submit(timed, words): name for name, words in chosen.items()}
+        try:
+            for done in concurrent.futures.as_completed(names):
+                told, passed, failed, seconds = done.result()
+                shown.has_ended(names[done], seconds, told, passed, failed)
+        except KeyboardInterrupt:
+            for waiting in names:
+                waiting.cancel()
+            for child in list(running):
+                os.killpg(child.pid, signal.SIGKILL)
+            raise
 
 
 def say_which():
@@ -123,4 +140,9 @@ def main():
 
 
 if __name__ == "__main__":
-    sys.exit(main())
+    signal.signal(signal.SIGTERM, signal.default_int_handler)
+    try:
+        sys.exit(main())
+    except KeyboardInterrupt:
+        print("\ninterrupted")
+        sys.exit(130)
