@@ -45,7 +45,8 @@ use Rattle.fv_top.specs.headline.Promise.{Asks, Plays, IsWhole, Write, Tell, Has
 use Rattle.fv_top.specs.headline.Promise.{of_job, LeavesOutput, HasPlayedPresent, IsReadBy, IsRead, KeepsOthers}
 use Rattle.fv_top.specs.headline.Played.{HaveRan, RanSoFar}
 use Rattle.fv_top_files.specs.Formats.{format_in}
-use Rattle.fv_top.specs.inner.Prepared.{CanRun, IsForRun, IsOfFiles, HasRun, IsCutIn, EndsAt, frames_there, file_on, file_to, file_there, samples_of, coding_heard}
+use Rattle.fv_top.specs.inner.Prepared.{CanRun, IsForRun, IsOfFiles, HasRun, IsCutIn, EndsAt, frames_there, file_on, file_to, file_there, samples_of}
+use Rattle.fv_top.specs.inner.Prepared.{coding_heard}
 use Rattle.fv_top.specs.inner.Prepared.{refusal_of_stop}
 use Rattle.fv_top.specs.inner.Running.{Reaches, CountsFaultOf, asked_before, EndsDone, Stopped}
 use Rattle.fv_top.proofs.Reaching.{fits_frames}
