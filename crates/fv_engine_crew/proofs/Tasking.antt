@@ -49,7 +49,7 @@ before_of k j v ws ss cs a b c =
           let next : v + 1 ≡ suc v = omega arith in
           subst (λ (u : ℕ). Holds f (slice_index (locals_of k.plan.now (tasks_in k) j) i) (upto k u) (lane_of (fs ++ gs) i)) next
           (subst (λ (l : ℕ). Holds f l (upto k (v + 1)) (lane_of (fs ++ gs) i)) (sym (get_or-append_right own rest (length own) i 0 refl le))
-          (subst (λ (x : Lane). Holds f (get_or rest (i - length own) 0) (upto k (v + 1)) x) (sym is) ((b.each (i - length own) s n).holds f d)));
+          (subst (λ (x : Lane). Holds f (get_or rest (i - length own) 0) (upto k (v + 1)) x) (sym is) (((b.each (i - length own) s n).holds f d).holds)));
       tables = ap (λ (p : PlanView). p.tables) c.plan;
       count = length_table (length cs.plan.now.cells) _ ∙ ap (λ (p : PlanView). length p.cells) c.plan;
       cells = c.holds;

@@ -5,7 +5,7 @@ use Rattle.std.specs.Global.{Vec, Box}
 use Rattle.fv_outside.specs.headline.Tasks.{Tasks}
 use Rattle.fv_graph.specs.Graph.{stride, place_in, pair_at}
 use Rattle.fv_loopcode.specs.headline.State.{State, list_at}
-use Rattle.fv_loopcode.specs.Obeys.{Content, Holds, HoldsJust}
+use Rattle.fv_loopcode.specs.Obeys.{Content, HoldsJust}
 use Rattle.fv_loopcode.specs.Blocks.{before}
 use Rattle.fv_loopcode.specs.Words.{argument}
 use Rattle.fv_loopcode_machine.specs.Scratches.{Serves}
@@ -87,9 +87,9 @@ pub record IsWriterOf (k : Start) (l v : ℕ) (w : LaneWriter) : Type 0 where
   pub written : written_by w ≡ upto k v
   pub holds : (f : Content) → IsContentOf k f → HoldsJust f l (upto k v) (k.frames - upto k v) (lane_open w)
 
--- s is lane l as it was seen, with its signal's values up to vector v
+-- s is lane l as it was seen, with its signal's values up to vector v and no more
 pub record IsSeenOf (k : Start) (l v : ℕ) (s : SeenLane) : Type 0 where
-  pub holds : (f : Content) → IsContentOf k f → Holds f l (upto k v) (lane_seen s)
+  pub holds : (f : Content) → IsContentOf k f → HoldsJust f l (upto k v) 0 (lane_seen s)
 
 -- the writers of these lanes
 pub record AreWritersOf (k : Start) (lanes : List ℕ) (v : ℕ) (ws : List LaneWriter) : Type 0 where

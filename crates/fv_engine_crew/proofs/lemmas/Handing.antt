@@ -8,7 +8,7 @@ use Rattle.std.proofs.lemmas.List.{length-append, length-map, get_or_append_left
 use Rattle.std.proofs.Math.Seq.{drop-cons, get_or-append_seam}
 use Rattle.fv_graph.specs.Graph.{stride, place_in, pair_at}
 use Rattle.fv_loopcode.specs.headline.Lanes.{Lane, no_lane}
-use Rattle.fv_loopcode.specs.Obeys.{Holds, HoldsJust}
+use Rattle.fv_loopcode.specs.Obeys.{HoldsJust}
 use Rattle.fv_lines.specs.Seen.{lane_seen}
 use Rattle.fv_lines.specs.declared.seen.Seen.{Seen}
 use Rattle.fv_lines.specs.declared.writer.LaneWriter.{LaneWriter}
@@ -42,8 +42,11 @@ seen_written k lanes v ws ss e a =
           record {
             holds = λ f c.
                 let h : HoldsJust f (slice_index lanes i) (upto k v) (k.frames - upto k v) _ = (a.each i w m).holds f c in
-                subst (λ (l : Lane). Holds f (slice_index lanes i) (upto k v) l) (sym is)
-                (record { history = h.holds.history; long = h.holds.long; same = h.holds.same });
+                subst (λ (l : Lane). HoldsJust f (slice_index lanes i) (upto k v) 0 l) (sym is) (record {
+                  holds = record { history = h.holds.history; long = h.holds.long; same = h.holds.same };
+                  just = h.just;
+                  room = omega arith;
+                });
           };
     }
 
