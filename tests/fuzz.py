@@ -2,16 +2,20 @@
 """Programs, scripts, sound files and words made at random, and spoiled at random, given to the built program and to a second
 reading of its documents (reference.py): the line, the exit status and every file have to be the same.
 
-    tests/fuzz.py [--count N] [--first N] [--jobs N] [--workers N] [--program FILE] [--keep FOLDER] [--counts]
+    tests/fuzz.py [--count N] [--first N] [--jobs N] [--workers N] [--program FILE] [--keep FOLDER] [--counts] [--unbounded]
 
 Case number n is the same on each machine. What differs is printed, and kept in a folder of its own under --keep: the files, the
-words (words.json) and both answers. --counts prints at the end what was answered how often. The last line is `N passed, M failed`."""
+words (words.json) and both answers. --counts prints at the end what was answered how often, and how many cases have what. --unbounded
+tries instead recursions without end that leave three parameters over, or more, which have to be refused 23 EvalBudget: a program
+that keeps something for each parameter that is left over may run out of memory first, and says so (40 NoMemory). The last line is
+`N passed, M failed`."""
 import argparse
 import collections
 import json
 import multiprocessing
 import os
 import random
+import re
 import shutil
 import struct
 import subprocess
@@ -26,6 +30,8 @@ from part import PROGRAM, need_program
 
 PATIENCE = 20_000
 SECONDS = 60
+# what stands before the name of a trait among the counts of answers
+TRAIT = "cases with "
 
 
 # ---- programs
@@ -35,6 +41,7 @@ BINARY = ["+", "-", "*", "/", "%", "&", "|", "xor", "<", "<=", ">", ">=", "==", 
 INFIX = [word for word in BINARY if word not in ("min", "max", "prefix", "attach")]
 NUMBERS = [0, 1, 2, 3, 5, 7, 10, 31, 32, 33, 100, 255, 256, 4095, 65535, 65536, 1048575, 2147483647, -1, -2, -7, -128, -32768, -2147483647]
 LABELS = ["g", "my gain", "on", "a", "b/c", "[x]"]
+LONG_LABELS = ["long " * 60, "x" * 4000, "a/" * 150 + "g"]
 NAMES = ["x", "y", "z", "n", "f", "g", "_a", "__b2", "a_b"]
 
 
@@ -55,7 +62,7 @@ class Maker:
         inputs, outputs = self.among([0, 0, 1, 1, 1, 2, 2, 3, 4]), self.among([1, 1, 1, 2, 2, 3, 5])
         scope, definitions = {}, []
         for _ in range(self.among([0, 0, 1, 2, 3])):
-            name, shape = self.name(), (self.among([0, 0, 1, 2]), self.among([1, 1, 2]))
+            name, shape = self.name(), (self.among([0, 0, 1, 2, 3, 5]), self.among([1, 1, 2]))
             if name not in scope:
                 definitions.append(self.definition(name, shape, dict(scope), 3))
                 scope[name] = shape
@@ -67,8 +74,8 @@ class Maker:
         """A definition of a name with this shape: plain, with parameters, or by rules."""
         inputs, outputs = shape
         kind = self.chance.randrange(4)
-        if kind == 0 and inputs:
-            parameters = self.chance.sample(NAMES, min(inputs, self.among([1, 2])))
+        if kind < 2 and inputs:
+            parameters = self.chance.sample(NAMES, min(inputs, self.among([1, 2, 3, 4, 5])))
             inner = {**scope, **{parameter: (0, 1) for parameter in parameters}}
             return f"{name}({','.join(parameters)}) = {self.made(inputs - len(parameters), outputs, depth - 1, inner)};"
         return f"{name} = {self.made(inputs, outputs, depth - 1, scope)};"
@@ -78,6 +85,9 @@ class Maker:
         fitting = [name for name, shape in scope.items() if shape == (inputs, outputs)]
         if fitting and self.chance.random() < 0.4:
             return self.among(fitting)
+        wider = [name for name, shape in scope.items() if shape[0] > inputs and shape[1] == outputs]
+        if wider and depth > 0 and self.chance.random() < 0.3:
+            return self.given_some(self.among(wider), inputs, depth - 1, scope)
         if depth <= 0:
             return self.leaf(inputs, outputs)
         ways = [self.side_by_side, self.in_turn, self.split, self.merged, self.fed_back, self.applied, self.qualified, self.repeated]
@@ -105,8 +115,13 @@ class Maker:
     def spelled(self, number):
         return str(number) if number >= 0 else self.among([str(number), f"(0 - {-number})"])
 
+    def given_some(self, name, inputs, depth, scope):
+        """A name on as many numbers as leave these inputs over."""
+        numbers = [self.made(0, 1, depth - 1, scope) for _ in range(scope[name][0] - inputs)]
+        return f"{name}({','.join(numbers)})"
+
     def control(self):
-        label = self.among(LABELS)
+        label = self.among(LABELS) if self.chance.random() < 0.95 else self.among(LONG_LABELS)
         if label not in self.controls or self.chance.random() < 0.02:
             kind = self.among(["button", "checkbox", "hslider", "vslider", "nentry"])
             least = self.among([0, 0, -5, 1])
@@ -187,8 +202,12 @@ class Maker:
         body = self.made(inputs, outputs, depth, {**scope, name: shape})
         if self.chance.random() < 0.5 or inputs == 0:
             return f"\\({name}).({body})({self.made(*shape, depth, scope)})"
-        body = self.made(inputs - 1, outputs, depth, {**scope, name: (0, 1)})
-        return f"\\({name}).({body})"
+        # Some of the parameters are given numbers, and the others are left over as inputs.
+        left, given = self.chance.randint(1, min(inputs, 3)), self.among([0, 0, 1, 2])
+        parameters = self.chance.sample(NAMES, left + given)
+        body = self.made(inputs - left, outputs, depth, {**scope, **{parameter: (0, 1) for parameter in parameters}})
+        numbers = ",".join(self.made(0, 1, depth - 1, scope) for _ in range(given))
+        return f"\\({','.join(parameters)}).({body})" + (f"({numbers})" if given else "")
 
     def qualified(self, inputs, outputs, depth, scope):
         name, shape = self.name(), (self.among([0, 0, 1]), self.among([1, 1, 2]))
@@ -255,6 +274,68 @@ REFUSED = [
 ]
 
 
+class Pattern:
+    """A pattern made at random: a number, a name, or two patterns and what composes them. Lanes, which stand side by side, may be
+    numbers; the parts of other compositions have one input and one output each, mostly, so that there are such diagrams."""
+
+    def __init__(self, chance, depth, names, are_lanes=True):
+        self.parts = None
+        are_lanes = are_lanes or chance.random() < 0.05
+        if depth <= 0 or chance.random() < 0.15:
+            is_name = names and (not are_lanes or chance.random() < 0.8)
+            self.leaf = names.pop() if is_name else str(chance.choice([0, 1, 2, 3]))
+            if names and chance.random() < 0.003:
+                # a name that is there twice, which is refused
+                self.leaf = names[-1]
+            self.fitting = ["_", "abs", "mem", "3", "+(1)", "hslider(\"g\",0,0,9,1)"] if are_lanes else ["abs", "mem", "_", "@(3)"]
+        else:
+            self.operator = chance.choice([",", ",", ",", ":", "<:", ":>", "~"] if are_lanes else [":", ":", "<:", ":>", "~"])
+            are_lanes = self.operator == ","
+            self.parts = [Pattern(chance, 0 if self.operator == "~" else depth - 1, names, are_lanes), Pattern(chance, depth - 1, names, are_lanes)]
+            if self.operator == "~":
+                self.parts[0].fitting = ["+", "-", "max"]
+
+    def spelled(self):
+        return self.leaf if self.parts is None else f"({self.parts[0].spelled()} {self.operator} {self.parts[1].spelled()})"
+
+    def instance(self, chance):
+        """A diagram that the pattern fits, mostly."""
+        if self.parts is not None:
+            return f"({self.parts[0].instance(chance)} {self.operator} {self.parts[1].instance(chance)})"
+        return self.leaf if self.leaf.isdigit() and chance.random() < 0.95 else chance.choice(self.fitting)
+
+
+def nested_rules(chance):
+    """Rules whose patterns are nested, on arguments that one of them fits, mostly."""
+    letters, width, rules, given = ["a", "b", "c", "d", "x", "y", "z", "n"], chance.choice([1, 1, 2, 3, 4]), [], []
+    for _ in range(chance.choice([1, 2, 3])):
+        names = chance.sample(letters, len(letters))
+        patterns = [Pattern(chance, chance.choice([0, 1, 2, 3]), names) for _ in range(width)]
+        given = given if given and chance.random() < 0.5 else [pattern.instance(chance) for pattern in patterns]
+        forms = ["{0}", "inputs({0})", "outputs({0})"] + (["f({0})"] if width == 1 and patterns[0].parts else [])
+        parts = [chance.choice(forms).format(name) for name in letters if name not in names]
+        rules.append(f"({','.join(pattern.spelled() for pattern in patterns)}) => {','.join(parts[:4]) or '1'};")
+    if chance.random() < 0.9:
+        others = ",".join(["p", "q", "r", "s"][:width])
+        rules.append(f"({others}) => {others};")
+    if chance.random() < 0.5:
+        definitions = f"f = case {{ {' '.join(rules)} }};"
+    else:
+        definitions = " ".join("f" + rule.replace(" =>", " =", 1) for rule in rules)
+    left = chance.choice([0] * 15 + [1]) if width > 1 else 0
+    return f"{definitions} process = f({','.join(given[: width - left])});"
+
+
+# recursions without end that leave three parameters over, or more: the language refuses them after 1,000,000 visits
+UNBOUNDED = [
+    "f(x,y,z) = f; process = f;",
+    "f(a,b,c,d,e) = f; process = f({0});",
+    "mix(a,b,c,d,e,f,g) = mix(a); process = mix;",
+    "f(x,y,z) = f(z); process = f, {0};",
+    "f(x,y,z) = \\(a,b,c).(f); process = f({0},{1});",
+]
+
+
 def wild(chance, depth, scope):
     """An expression of any shape, which is mostly refused."""
 
@@ -304,11 +385,13 @@ def spoiled(chance, text):
 
 def program_text(chance):
     maker, kind = Maker(chance), chance.random()
-    if kind < 0.65:
+    if kind < 0.6:
         text = maker.program()
-    elif kind < 0.8:
+    elif kind < 0.68:
+        text = nested_rules(chance)
+    elif kind < 0.82:
         numbers = chance.choice(NUMBERS[:10]), chance.choice(NUMBERS[:16]), chance.choice([0, 1, 2, 3, 5, 9])
-        text = chance.choice(RULED if kind < 0.76 else REFUSED).format(*numbers)
+        text = chance.choice(RULED if kind < 0.78 else REFUSED).format(*numbers)
     else:
         text = f"process = {wild(chance, chance.randint(1, 5), [])};"
     if chance.random() < 0.2:
@@ -324,12 +407,19 @@ def program_text(chance):
 # ---- files of jobs, scripts, sound files, words
 
 
+# jobs with the same labels for controls that differ
+SHARED = ['process = button("g");', 'process = _ * hslider("g",{0},0,9,1);', 'process = hslider("g",{0},-3,5,1), checkbox("on");', "process = + ~ @({0});"]
+SHARED += ['process = nentry("0/g",{0},0,9,1) * button("g");', 'process = (_ , checkbox("on") : select2(hslider("g",0,0,1,1))) ~ _;']
+
+
 def rack_text(chance):
     """Texts with lines between that separate jobs, or seem to."""
     texts = [program_text(chance) for _ in range(chance.choice([1, 2, 2, 2, 3, 3, 4]))]
     if chance.random() < 0.02:
         texts = ["process = 1;"] * chance.choice([15, 16, 17, 40])
-    lines = ["\n%%\n"] * 30 + ["\n%%\r\n", "\r\n%%\n", "\n%%\n%%\n", "\n%%", "%%\n", "\n%% \n", "\n%%%\n", "\n%%\r\r\n"]
+    elif chance.random() < 0.15:
+        texts = [chance.choice(SHARED).format(chance.choice([0, 1, 5])) for _ in range(chance.choice([5, 9, 15, 16, 16, 17]))]
+    lines = ["\n%%\n"] * (30 if len(texts) < 5 else 500) + ["\n%%\r\n", "\r\n%%\n", "\n%%\n%%\n", "\n%%", "%%\n", "\n%% \n", "\n%%%\n", "\n%%\r\r\n"]
     text = texts[0] + "".join(chance.choice(lines) + text for text in texts[1:])
     return text + chance.choice([""] * 30 + ["\n%%", "\n%%\n", "\n%%\r"])
 
@@ -407,7 +497,9 @@ def au_bytes(chance, channels, frames):
     bits = chance.choice([8, 16, 24, 32])
     samples = reference.coded(True, bits, numbers_of(chance, channels * frames, bits))
     offset = chance.choice([24, 24, 28, 31])
-    size = chance.choice([len(samples), len(samples), 2**32 - 1, len(samples) + chance.choice([1, 9, 1000])])
+    size = chance.choice([len(samples), len(samples), 2**32 - 1, 2**32 - 1, len(samples) + chance.choice([1, 9, 1000])])
+    if size == 2**32 - 1:
+        samples += bytes(chance.choice([0, 0, 1, 2, 5]))
     return b".snd" + struct.pack(">5I", offset, size, bits // 8 + 1, 8000, channels) + bytes(offset - 24) + samples + chance.choice([b"", b"", b"\1"])
 
 
@@ -418,11 +510,11 @@ def sound_bytes(chance, is_au, channels, frames):
 
 def sizes(chance, most_workers):
     """Options that say how a run is cut; none of them changes a sample."""
-    block = chance.choice([1, 2, 3, 5, 8, 16, 31, 32, 33, 64, 512, 4096, chance.randint(1, 4096)])
+    block = chance.choice([1, 2, 3, 5, 8, 16, 31, 32, 33, 64, 512, 4096, chance.randint(1, 4096), chance.randint(1, 60)])
     vector = chance.choice([block, max(1, -(-block // 64)), chance.randint(max(1, -(-block // 64)), block)])
     options = [["--block", str(block), f"--vector={vector}"]] if chance.random() < 0.7 else []
     if most_workers > 1 and chance.random() < 0.6:
-        options.append([f"--workers={min(most_workers, chance.choice([1, 2, 2, 3, 4, 4, 7, 16]))}"])
+        options.append([f"--workers={min(most_workers, chance.choice([1, 2, 2, 3, 4, 4, 7, 16, chance.randint(2, 16)]))}"])
     if chance.random() < 0.4:
         options.append(["--bits", chance.choice(["8", "16", "24", "32", "32"])])
     return options
@@ -443,6 +535,13 @@ def spoiled_words(chance, words):
         else:
             words[at : at + chance.randint(0, 1)] = [chance.choice(STRAY)]
     return words
+
+
+def unbounded_case(number):
+    """The words and the files of a case whose evaluation has no end."""
+    chance = random.Random(number)
+    text = chance.choice(UNBOUNDED).format(*chance.sample(NUMBERS[:16], 2))
+    return ["check", "p.dsp"], {"p.dsp": text.encode("latin-1")}
 
 
 def made_case(number, most_workers):
@@ -467,7 +566,7 @@ def made_case(number, most_workers):
         channels, controls = chance.choice([0, 1, 2]), {}
     if chance.random() < 0.02:
         channels = chance.choice([1, 2, 3, 256])
-    frames = chance.choice([0, 1, 2, 3, 5, 8, 13, 20, 40])
+    frames = chance.choice([0, 1, 2, 3, 5, 8, 13, 20, 40, 40, 75])
     if channels:
         files[source] = sound_bytes(chance, is_au and source == "in.au" or is_au and chance.random() < 0.2, channels, frames)
     else:
@@ -515,13 +614,13 @@ def run(program, words, files, folder):
         shutil.rmtree(folder)
 
 
-def differs(case, program, folder):
+def differs(case, program, folder, is_unbounded=False):
     """What is answered, and how the answers of a case differ, if they do."""
     words, files = case
     try:
         wanted = reference.answer(words, files, ["", "folder"], PATIENCE)
     except TooMuch:
-        wanted = None
+        wanted = reference.Answer("refused 23 EvalBudget", 3) if is_unbounded else None
     line, errors, status, after = run(program, words, files, folder)
     given = line.decode("latin-1")
     given = given[:-1] if given.endswith("\n") else given
@@ -537,6 +636,56 @@ def differs(case, program, folder):
         other = [name for name in {*after, *outputs[0]} if after.get(name) != outputs[0].get(name)]
         return key, f"other bytes of {', '.join(sorted(other))}"
     return key, None
+
+
+# ---- what the cases are like
+
+
+def binds(diagram):
+    """Whether parameters of the diagram are left over as inputs."""
+    return diagram.kind == "bind" or any(binds(part) for part in diagram.parts if isinstance(part, reference.interpreter.Diagram))
+
+
+def deepest_pattern(text):
+    """How many brackets are open at once in the list of patterns of some rule."""
+    deepest = open_now = most = 0
+    for at, byte in enumerate(text):
+        if byte == "(":
+            open_now += 1
+            most = max(most, open_now)
+        elif byte == ")" and open_now:
+            open_now -= 1
+            if open_now == 0:
+                deepest = max(deepest, most if text[at + 1 :].startswith((" =>", " = ")) else 0)
+                most = 0
+    return deepest
+
+
+def traits_of(words, files):
+    """What is told of a case by --counts, beside what is answered."""
+    text = files.get("p.dsp", b"").decode("latin-1")
+    is_rack = words[:1] == ["rack"]
+    traits = {
+        "three parameters or more": re.search(r"\((?:\w+,){2,}\w+\)( =[^=>]|\.\()", text),
+        "three patterns or more": re.search(r"\([^()]*,[^()]*,[^()]*\) (=>|= )", text),
+        "nested patterns": deepest_pattern(text) > 2,
+        "long labels": re.search(r'"[^"]{200,}"', text),
+        "an AU file of unknown size": any(data[:4] == b".snd" and data[8:12] == b"\xff" * 4 for data in files.values()),
+        "two to sixteen workers": any(re.fullmatch("--workers=([2-9]|1[0-6])", word) for word in words),
+        "nine to sixteen workers": any(re.fullmatch("--workers=(9|1[0-6])", word) for word in words),
+        "nine jobs or more": is_rack and text.count("\n%%") >= 8,
+    }
+    try:
+        program = (reference.interpreter.Rack if is_rack else reference.interpreter.Program)(text, PATIENCE)
+        traits["parameters left over"] = any(binds(one.diagram) for one in (program.jobs if is_rack else [program]))
+        names = [control.label.partition("/")[2] for control in program.controls]
+        traits["labels that jobs share"] = is_rack and len(set(names)) < len(names)
+    except (reference.Refused, TooMuch):
+        pass
+    block = next((int(words[at + 1]) for at, word in enumerate(words[:-1]) if word == "--block" and words[at + 1].isdigit()), 512)
+    vectors = [int(word[9:]) for word in words if re.fullmatch("--vector=[0-9]+", word)]
+    traits["several vectors in an odd block, several workers"] = traits["two to sixteen workers"] and block % 2 and any(it < block for it in vectors)
+    return [name for name, holds in traits.items() if holds]
 
 
 def keep(folder, number, case, told):
@@ -555,9 +704,13 @@ def try_cases(numbers, options, results):
     scratch = tempfile.mkdtemp(prefix="fuzz_")
     try:
         for number in numbers:
-            case = made_case(number, options.workers)
-            key, told = differs(case, options.program, os.path.join(scratch, "case"))
+            case = unbounded_case(number) if options.unbounded else made_case(number, options.workers)
+            key, told = differs(case, options.program, os.path.join(scratch, "case"), options.unbounded)
             counts[key] += 1
+            if options.counts:
+                for trait in traits_of(*case):
+                    counts[TRAIT + trait] += 1
+                    counts[TRAIT + trait + ", played to the end"] += key == "done"
             if told:
                 counts["DIFFERS"] += 1
                 print(f"case {number}: {told}; words: {' '.join(case[0])!r}", flush=True)
@@ -586,6 +739,7 @@ def main():
     parser.add_argument("--program", default=PROGRAM)
     parser.add_argument("--keep", help="the folder where what differs is kept")
     parser.add_argument("--counts", action="store_true", help="tell what was answered how often")
+    parser.add_argument("--unbounded", action="store_true", help="try recursions without end alone, with parameters left over")
     options = parser.parse_args()
     options.program = os.path.abspath(options.program)
     need_program(options.program)
@@ -597,8 +751,9 @@ def main():
     counts = sum((results.get() for _ in jobs), collections.Counter())
     for job in jobs:
         job.join()
+    traits = collections.Counter({key: counts.pop(key) for key in list(counts) if key.startswith(TRAIT)})
     if options.counts:
-        for key, count in counts.most_common():
+        for key, count in counts.most_common() + sorted(traits.items()):
             print(f"{count:7} {key}")
     # Each case is counted by what was answered, and once more where it differs; one that was not tried has failed.
     passed = sum(counts.values()) - 2 * counts["DIFFERS"]
