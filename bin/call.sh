@@ -1,7 +1,7 @@
 # Read by `bin/faustvec`, and by the script that `bin/install` puts in its place, for bash as for dash: `call WORD..` runs the
 # program with these words, and chooses how the work is cut where they leave that open. Before it the caller sets `program`, the
-# program's path, `here`, the folder of this file, and `explain`, a command that says where a refusal comes from, which need not be
-# there. The caller answers nothing itself: what it does not let pass, the program refuses, by its own rules and in their order.
+# program's path, `here`, the folder of this file, and `explain`, the command that explains a refused program, which need not be there.
+# The caller answers nothing itself: what it does not let pass, the program refuses, by its own rules and in their order.
 # A run that is accepted costs no other process, since most of the time that a short program takes is that of its callers.
 
 # Where one of the standard descriptors is closed, the next file that is opened would take its place, and an output at descriptor 1
@@ -133,6 +133,12 @@ find_overlap() {
   fi
 }
 
+# with_words PROGRAM: the program with the words as they were read, one spelling for all
+with_words() {
+  "$1" "$command" ${controls+"--controls=$controls"} ${bits+"--bits=$bits"} ${frames+"--frames=$frames"} ${rate+"--rate=$rate"} \
+    ${block+"--block=$block"} ${vector+"--vector=$vector"} ${workers+"--workers=$workers"} -- "$first" "$second" "$third"
+}
+
 # refuse_overlap: the program compares words by their texts. So here both words become one text, which has the bytes of both, and the
 # program refuses it as the same, unless there is a cause that comes first.
 refuse_overlap() {
@@ -141,15 +147,30 @@ refuse_overlap() {
   controls) third=$controls/$third controls=$third ;;
   *) third=$first/$third first=$third ;;
   esac
-  wait_for "$command" ${controls+"--controls=$controls"} ${bits+"--bits=$bits"} ${frames+"--frames=$frames"} ${rate+"--rate=$rate"} \
-    ${block+"--block=$block"} ${vector+"--vector=$vector"} ${workers+"--workers=$workers"} -- "$first" "$second" "$third"
+  with_words "$program"
+  end_with "$?"
 }
 
-# explain_refusal: what the command that explains refusals says of the program, where there is one and it says something
+# refusal: the line by which the program was refused. An output without a name is never made.
+refusal() {
+  if [ "$command" = check ] || ! { [ "$second" = - ] || [ -f "$second" ]; }; then
+    "$program" check -- "$first"
+  else
+    third=
+    with_words "$program"
+  fi
+}
+
+# explain_refusal: what `explain` says of the refused program, where it is there and says something
 explain_refusal() {
-  local text
+  local line text is_rack=
   [ -f "$first" ] && [ -x "$explain" ] || return
-  text=$("$explain" "$first" 2>/dev/null </dev/null) && [ -n "$text" ] && printf '%s\n' "$text" >&2
+  line=$(refusal)
+  case $line in
+  'refused 4 '* | 'refused 47 '*) return ;;
+  esac
+  [ "$command" != rack ] || is_rack=--rack
+  text=$("$explain" $is_rack --after "$line" -- "$first" 2>/dev/null) && [ -n "$text" ] && printf '%s\n' "$text" >&2
 }
 
 cannot_start() {

@@ -14,22 +14,27 @@ whole_size() {
   esac
 }
 
-# show_progress FILE: until it is stopped
+# show_progress FILE: until it is ended, by SIGTERM
 show_progress() {
-  local seconds=0 size all left
-  while sleep 1; do
+  local seconds=0 is_shown= sleeper= size all left
+  trap '' INT
+  trap '[ -z "$is_shown" ] || printf "\r\033[K" >&3; kill $sleeper; exit' TERM
+  while :; do
+    # A wait, and not the sleep, is what the signal ends at once.
+    sleep 1 &
+    sleeper=$!
+    wait "$sleeper"
     seconds=$((seconds + 1))
     [ -f "$1" ] && all=$(whole_size "$1") && size=$(stat -c %s -- "$1") && [ "$size" -gt 44 ] || continue
     left=$(((all - size) * seconds / size))
     printf '\r%3d %% %d:%02d:%02d\033[K\r' $((size * 100 / all)) $((left / 3600)) $((left / 60 % 60)) $((left % 60)) >&3
+    is_shown=yes
   done
 }
 
 with_progress() {
-  local start watcher status
+  local watcher status
   trap : INT
-  start=$(date +%s)
-  # What it calls is stopped anywhere, and has nothing to say of that.
   show_progress "$1" </dev/null >/dev/null 3>&2 2>/dev/null &
   watcher=$!
   shift
@@ -37,6 +42,5 @@ with_progress() {
   status=$?
   kill "$watcher" 2>/dev/null
   wait "$watcher" 2>/dev/null
-  [ "$(date +%s)" -eq "$start" ] || printf '\r\033[K' >&2
   return "$status"
 }

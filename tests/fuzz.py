@@ -287,7 +287,7 @@ class Pattern:
             if names and chance.random() < 0.003:
                 # a name that is there twice, which is refused
                 self.leaf = names[-1]
-            self.fitting = ["_", "abs", "mem", "3", "+(1)", "hslider(\"g\",0,0,9,1)"] if are_lanes else ["abs", "mem", "_", "@(3)"]
+            self.fitting = ["_", "abs", "mem", "3", "+(1)", 'hslider("g",0,0,9,1)'] if are_lanes else ["abs", "mem", "_", "@(3)"]
         else:
             self.operator = chance.choice([",", ",", ",", ":", "<:", ":>", "~"] if are_lanes else [":", ":", "<:", ":>", "~"])
             are_lanes = self.operator == ","
