@@ -4,11 +4,12 @@ reading of its documents (reference.py): the line, the exit status and every fil
 
     tests/fuzz.py [--count N] [--first N] [--jobs N] [--workers N] [--program FILE] [--keep FOLDER] [--counts] [--unbounded]
 
+--counts also tells how many cases have what, such as three parameters. --unbounded tries instead recursions without end that leave three
+parameters over, or more, which have to be refused 23 EvalBudget; a program that keeps something for each such parameter may run out of
+memory first, and says so (40 NoMemory).
+
 Case number n is the same on each machine. What differs is printed, and kept in a folder of its own under --keep: the files, the
-words (words.json) and both answers. --counts prints at the end what was answered how often, and how many cases have what. --unbounded
-tries instead recursions without end that leave three parameters over, or more, which have to be refused 23 EvalBudget: a program
-that keeps something for each parameter that is left over may run out of memory first, and says so (40 NoMemory). The last line is
-`N passed, M failed`."""
+words (words.json) and both answers. --counts prints at the end what was answered how often. The last line is `N passed, M failed`."""
 import argparse
 import collections
 import json
@@ -749,9 +750,9 @@ def main():
         jobs.append(multiprocessing.Process(target=in_a_deep_stack, args=(numbers, options, results)))
         jobs[-1].start()
     counts = sum((results.get() for _ in jobs), collections.Counter())
+    traits = collections.Counter({key: counts.pop(key) for key in list(counts) if key.startswith(TRAIT)})
     for job in jobs:
         job.join()
-    traits = collections.Counter({key: counts.pop(key) for key in list(counts) if key.startswith(TRAIT)})
     if options.counts:
         for key, count in counts.most_common() + sorted(traits.items()):
             print(f"{count:7} {key}")
