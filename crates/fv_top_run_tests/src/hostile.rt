@@ -2,8 +2,6 @@
 
 ghost use Rattle.std.specs.Prelude.{◌≤◌};
 
-use crate::au::{AU_OPEN, AU_THREE};
-use crate::files::{ODD, PLAIN};
 use fv_outside::{MemoryDesk, Role};
 use std::alloc::{AllocError, Global};
 use std::sync::Wait;
@@ -27,6 +25,28 @@ pub const FIVE: [u8; 54] =
 
 const GAINED: [u8; 54] =
     *b"RIFF\x2e\0\0\0WAVEfmt \x10\0\0\0\x01\0\x01\0\x44\xac\0\0\x88\x58\x01\0\x02\0\x10\0data\x0a\0\0\0\x05\0\x05\0\x0f\0\0\0\0\0";
+
+// Two samples of 24 bits, 1 and -2, in an extensible file with an odd chunk.
+const ODD: [u8; 86] = [
+    82, 73, 70, 70, 78, 0, 0, 0, 87, 65, 86, 69, 102, 109, 116, 32, 40, 0, 0, 0, 254, 255, 1, 0,
+    68, 172, 0, 0, 204, 4, 2, 0, 3, 0, 24, 0, 22, 0, 24, 0, 4, 0, 0, 0, 1, 0, 0, 0, 0, 0, 16, 0,
+    128, 0, 0, 170, 0, 56, 155, 113, 76, 73, 83, 84, 3, 0, 0, 0, 65, 66, 67, 0, 100, 97, 116, 97,
+    6, 0, 0, 0, 1, 0, 0, 254, 255, 255,
+];
+
+// The same samples after a plain head.
+const PLAIN: [u8; 50] = [
+    82, 73, 70, 70, 42, 0, 0, 0, 87, 65, 86, 69, 102, 109, 116, 32, 16, 0, 0, 0, 1, 0, 1, 0, 68,
+    172, 0, 0, 204, 4, 2, 0, 3, 0, 24, 0, 100, 97, 116, 97, 6, 0, 0, 0, 1, 0, 0, 254, 255, 255,
+];
+
+// Three samples of 16 bits, 1, -2 and 3, in an AU file.
+const AU_THREE: [u8; 30] =
+    *b".snd\0\0\0\x18\0\0\0\x06\0\0\0\x03\0\0\xac\x44\0\0\0\x01\0\x01\xff\xfe\0\x03";
+
+// The same, where the size is not stated.
+const AU_OPEN: [u8; 30] =
+    *b".snd\0\0\0\x18\xff\xff\xff\xff\0\0\0\x03\0\0\xac\x44\0\0\0\x01\0\x01\xff\xfe\0\x03";
 
 const WIRE_ROW: Row = (
     &WORDS,

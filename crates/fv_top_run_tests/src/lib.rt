@@ -1,5 +1,5 @@
-//! Tests of whole runs by what they meet: words, files, desks that give little or fail, blocks and workers, and what is made for `make`; and a
-//! caller of the top call.
+//! Tests of whole runs by what is seen from within: desks that give little or fail, blocks and workers under gates, and what is made for
+//! `make`; and a caller of the top call. What is seen from outside (words, files, lines) is in the tables of `tests/rows`.
 #![tactic(auto)]
 
 mod sure;
@@ -7,20 +7,10 @@ mod sure;
 pub use sure::run_sure;
 
 #[cfg(test)]
-mod au;
-#[cfg(test)]
 mod blocks;
-#[cfg(test)]
-mod cut;
-#[cfg(test)]
-mod files;
 #[cfg(test)]
 mod hostile;
 #[cfg(test)]
 mod made;
-#[cfg(test)]
-mod makes;
-#[cfg(test)]
-mod runs;
 #[cfg(test)]
 mod workers;

@@ -1,9 +1,9 @@
-// Whole runs by several workers.
+// Whole runs by several workers: loops, jobs and tables.
 
 ghost use Rattle.std.specs.Prelude.{◌<◌};
 
 use crate::blocks::NOTHING;
-use fv_outside::{FreeGate, Gate, MemoryDesk, Role};
+use fv_outside::{Gate, MemoryDesk, Role};
 use fv_top::Tally;
 use std::alloc::{AllocError, Global};
 use std::process::Abort;
@@ -45,6 +45,42 @@ fn workers_that_never_steal_are_refused(rt: HostRuntime) -> Result<(), Fail> {
     let mut gate = Until::new(0, 2);
     let tally = assert_plays(&rt, rt.alloc(), &THREE_LOOPS, &mut gate)?;
     assert_eq!(rt; (tally.blocks, gate.missed()), (1, false));
+    Ok(())
+}
+
+// Two jobs, each on its own channel.
+static TWO_JOBS: Played = (
+    &["rack", "p.dsp", "in.wav", "out.wav", "--workers", "2"],
+    "process = _ + 1;\n%%\nprocess = _ * 2;\n",
+    (2, &[1, 1, 5, -3]),
+    (2, &[2, 2, 6, -6]),
+    "done 2 frames\n",
+);
+
+// The gate holds each task until the other is about to run, so two threads run them.
+#[test]
+fn jobs_share_the_workers(rt: HostRuntime) -> Result<(), Fail> {
+    let mut gate = Meeting::new(0, 1);
+    assert_plays(&rt, rt.alloc(), &TWO_JOBS, &mut gate)?;
+    assert!(rt; !gate.missed());
+    Ok(())
+}
+
+// Two loops that read nothing of one another, each with a table of its own.
+static A_TABLE_EACH: Played = (
+    &["run", "p.dsp", "in.wav", "out.wav", "--workers", "2"],
+    "process = (+ ~ rwtable(2,3,0,_,0)), rwtable(2,7,0,_,0);",
+    (2, &[1, 4, -2, 5, 3, 6]),
+    (2, &[1, 4, -1, 5, 2, 6]),
+    "done 3 frames\n",
+);
+
+// The gate holds each task until the other is about to run, so two threads run them.
+#[test]
+fn two_workers_have_a_table_each(rt: HostRuntime) -> Result<(), Fail> {
+    let mut gate = Meeting::new(0, 1);
+    let tally = assert_plays(&rt, rt.alloc(), &A_TABLE_EACH, &mut gate)?;
+    assert_eq!(rt; (tally.loops, gate.missed()), (2, false));
     Ok(())
 }
 
@@ -110,37 +146,11 @@ fn echoes<G: Gate + Sync>(
     Ok(tally)
 }
 
-// Echoes after a quarter of a second, and after 110 frames.
+// Echoes after a quarter of a second.
 const QUARTERS: Echo = (
     "echo(d,g) = + ~ (@(d-1) : *(g) : /(256)); process = par(i,2,echo(11025,128));",
     11025,
 );
-
-const SHORT: Echo = (
-    "echo(d,g) = + ~ (@(d-1) : *(g) : /(256)); process = par(i,2,echo(110,128));",
-    110,
-);
-
-static ECHOES: [(Echo, &str, &str, &str); 8] = [
-    (SHORT, "--block=1", "--vector=1", "--workers=1"),
-    (SHORT, "--block=7", "--vector=7", "--workers=1"),
-    (SHORT, "--block=512", "--vector=32", "--workers=1"),
-    (QUARTERS, "--block=1", "--vector=1", "--workers=1"),
-    (QUARTERS, "--block=1", "--vector=1", "--workers=2"),
-    (QUARTERS, "--block=512", "--vector=32", "--workers=1"),
-    (QUARTERS, "--block=512", "--vector=32", "--workers=2"),
-    (QUARTERS, "--block=512", "--vector=32", "--workers=16"),
-];
-
-// By sixteen workers the built program plays a part of them by frames (`tests/check-program`), since that takes sixteen threads for each.
-#[test]
-fn echoes_by_each_size(rt: HostRuntime) -> Result<(), Fail> {
-    for (echo, block, vector, workers) in &ECHOES {
-        let words = ["run", "p.dsp", "in.wav", "out.wav", block, vector, workers];
-        echoes(&rt, rt.alloc(), *echo, &words, &mut FreeGate)?;
-    }
-    Ok(())
-}
 
 // The gate sees as many tasks as are counted, whoever runs them.
 #[test]

@@ -34,31 +34,18 @@ pub const THREE: [u8; 50] = [
     172, 0, 0, 136, 88, 1, 0, 2, 0, 16, 0, 100, 97, 116, 97, 6, 0, 0, 0, 1, 0, 254, 255, 3, 0,
 ];
 
-/// Files that each desk has beside a program and an input.
-const OTHERS: [(&str, &[u8]); 12] = [
-    ("c.txt", b"2 g 3\n3 g 0\n"),
-    ("on.txt", b"1 on 1"),
-    ("low.txt", b"0 g 0\n1 g 10"),
-    ("high.txt", b"0 g 11"),
-    ("back.txt", b"3 g 1\n2 g 1\n"),
-    ("nothing.txt", b"# nothing\n\r\n"),
-    ("form.txt", b"x g 1"),
-    ("label.txt", b"\n0 h 1"),
-    ("value.txt", b"0 h 2147483648"),
-    ("blank.txt", b"0 my gain 3"),
-    ("second.txt", b"1 1/g 3"),
-    ("twelfth.txt", b"1 11/g 3\n1 1/g 2\n"),
-];
+/// The script that each desk has beside a program and an input.
+const SCRIPT: &[u8] = b"2 g 3
+3 g 0
+";
 
 /// How a run ends: its exit status, its line and its output.
 pub type End<'a> = (u8, &'a str, &'a [u8]);
 
-/// A desk with a program and an input, and room for what is written.
+/// A desk with a program, an input and a script, and room for what is written.
 pub fn desk_of(alloc: Global, text: &[u8], input: &[u8]) -> Result<MemoryDesk, AllocError> {
     let mut desk = MemoryDesk::new(alloc);
-    for (name, bytes) in OTHERS {
-        desk.put(name, bytes)?;
-    }
+    desk.put("c.txt", SCRIPT)?;
     desk.put("p.dsp", text)?;
     desk.put("in.wav", input)?;
     desk.room(Role::Output, 100_000)?;
@@ -128,33 +115,3 @@ pub fn assert_ends(
 
 /// A run that ends so: its words, its program and its input.
 pub type Row<'a> = (&'a [&'a str], &'a str, &'a [u8], End<'a>);
-
-/// Each of these runs does.
-pub fn assert_all_end(
-    rt: &(impl Threads + Wait + Sync),
-    alloc: Global,
-    rows: &[Row<'_>],
-) -> Result<(), Fail> {
-    for (words, text, input, end) in rows {
-        let mut desk = desk_of(alloc, text.as_bytes(), input)?;
-        assert_ends(rt, alloc, &mut desk, words, *end)?;
-    }
-    Ok(())
-}
-
-/// A run on three samples that writes no output: its words, its program, its exit status and its line.
-pub type Silent<'a> = (&'a [&'a str], &'a str, u8, &'a str);
-
-/// Each of these runs ends so.
-pub fn assert_all_report(
-    rt: &(impl Threads + Wait + Sync),
-    alloc: Global,
-    rows: &[Silent<'_>],
-) -> Result<(), Fail> {
-    for (words, text, status, line) in rows {
-        let mut desk = desk_of(alloc, text.as_bytes(), &THREE)?;
-        let end: End = (*status, *line, &[]);
-        assert_ends(rt, alloc, &mut desk, words, end)?;
-    }
-    Ok(())
-}

@@ -5,7 +5,6 @@ mod desks;
 mod samples;
 
 pub use desks::{
-    BLOCKS_OF_FOUR, End, GAIN, Row, Silent, THREE, TO_AU, WORDS, assert_all_end, assert_all_report,
-    assert_ends, desk_of, status_of, tally_of,
+    BLOCKS_OF_FOUR, End, GAIN, Row, THREE, TO_AU, WORDS, assert_ends, desk_of, status_of, tally_of,
 };
-pub use samples::{Played, assert_all_play, assert_plays, file_of};
+pub use samples::{Played, assert_plays, file_of};

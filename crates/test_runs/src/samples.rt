@@ -1,7 +1,7 @@
 // Files of samples, and programs that are played on them.
 
 use crate::desks::{desk_of, tally_of};
-use fv_outside::{FreeGate, Gate, Role};
+use fv_outside::{Gate, Role};
 use fv_top::Tally;
 use std::alloc::{AllocError, Global};
 use std::sync::Wait;
@@ -60,16 +60,4 @@ pub fn assert_plays<G: Gate + Sync>(
         Some(counted) => Ok(counted),
         None => Err("refused, with the line of a run that is done".into()),
     }
-}
-
-/// Each of these programs does.
-pub fn assert_all_play(
-    rt: &(impl Threads + Wait + Sync),
-    alloc: Global,
-    rows: &[Played<'_>],
-) -> Result<(), Fail> {
-    for played in rows {
-        assert_plays(rt, alloc, played, &mut FreeGate)?;
-    }
-    Ok(())
 }
