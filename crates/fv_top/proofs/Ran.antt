@@ -118,7 +118,7 @@ first_later (Checking name) e a b c same first = tt
 first_later (Making voices frames workers) e a b c same first = first
 
 -- nor of what was written
-module _ {a b c : DeskState} (same : c.begins Output ≡ b.begins Output) (kept : IsTrue a.tells → c.written Output ≡ b.written Output) where
+module _ (a b c : DeskState) (same : c.begins Output ≡ b.begins Output) (kept : IsTrue a.tells → c.written Output ≡ b.written Output) where
   stops_later : (job : Job) (e : Refusal) (x : Played) (upto : ℕ) → StopsAt job e a b x upto → StopsAt job e a c x upto
   stops_later (Playing run) e x upto s = (
     s.0,
@@ -140,6 +140,6 @@ so_far_later {e = e} {a = a} {b = b} {c = c} same kept (inr h) = inr (record {
   upto = h.upto;
   counted = h.counted;
   ran = h.ran;
-  stops = stops_later same kept h.job e h.ran.played h.upto h.stops;
+  stops = stops_later a b c same kept h.job e h.ran.played h.upto h.stops;
   first = λ is. h.first (first_later h.job e a c b (sym same) is);
 })

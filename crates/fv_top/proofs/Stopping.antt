@@ -3,7 +3,7 @@ use Rattle.std.proofs.Common.{◌≡◌, ℕ, List, [], ◌∷◌, sym, ◌∙�
 use Rattle.std.specs.Prelude.{IsTrue, Option, Some, None, Err}
 use Rattle.std.proofs.lemmas.List.{append-nil}
 use Rattle.fv_base.specs.declared.role.Role.{Role}
-use Rattle.fv_base.specs.declared.role.Role.TheVariants.{Program, Input, Output, Report}
+use Rattle.fv_base.specs.declared.role.Role.TheVariants.{Program, Input, Controls, Output, Report}
 use Rattle.fv_outside.specs.headline.Requests.{Request, to_read}
 use Rattle.fv_outside.specs.headline.Desk.{DeskState, File, GoesOn}
 use Rattle.fv_outside.specs.Desk.{Appends}

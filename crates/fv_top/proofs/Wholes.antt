@@ -1,6 +1,6 @@
 -- A file that was read to its end.
 use Rattle.std.proofs.Common.{◌≡◌, ◌≢◌, ℕ, ◌≤◌, ◌<◌, List, [], length, take, drop, sym, ◌∙◌, ap, arith, refl, ⊎_elim}
-use Rattle.std.specs.Prelude.{IsTrue, IsSome, Some, Ok}
+use Rattle.std.specs.Prelude.{IsTrue, IsSome, Some, Ok, Err}
 use Rattle.std.proofs.lemmas.Bool.{cases_lt, lt-leb}
 use Rattle.std.proofs.lemmas.List.{drop_all, length-take}
 use Rattle.fv_base.specs.declared.role.Role.{Role}
@@ -10,6 +10,7 @@ use Rattle.fv_outside.proofs.lemmas.States.{told_before}
 use Rattle.fv_diagram.specs.declared.control.ControlInfo.{ControlInfo}
 use Rattle.fv_control.specs.declared.script.Change.{Change}
 use Rattle.fv_control.specs.headline.Script.{script}
+use Rattle.fv_control.specs.declared.refusal.ScriptRefusal.TheVariants.{TextTooLong}
 use Rattle.fv_top_words.specs.headline.Runs.{Run}
 use Rattle.fv_top_words.specs.headline.Commands.{Playing}
 use Rattle.fv_top_files.specs.Loading.{ReadsFile}
@@ -28,7 +29,7 @@ short_script controls bytes s is =
     ⊎_elim
     (λ (long : 1048576 < length bytes).
     let too = lt-leb (length bytes) 1048576 long in
-    let refused : script controls bytes ≡ _ = rw too refl in
+    let refused : script controls bytes ≡ Err (TextTooLong Controls) = rw too refl in
     let both = sym refused ∙ is in absurd cc)
     (λ (short : length bytes ≤ 1048576). short)
     (cases_lt 1048576 (length bytes))
@@ -42,10 +43,10 @@ script_whole controls file bytes s first is =
     drop_all 1048577 file few
 
 -- the program's file and the script were read to their ends, and then an input's head
-pub read_whole : {run : Run} {a b c d : DeskState} → ReadsFile Program (Some run.program) a b → ReadsFile Controls run.controls b c
+pub read_whole : (run : Run) {a b c d : DeskState} → ReadsFile Program (Some run.program) a b → ReadsFile Controls run.controls b c
     → ReadsFile Input run.input c d → (IsTrue a.tells → b.left Program ≡ []) → (IsTrue b.tells → IsSome run.controls → c.left Controls ≡ [])
     → IsTrue a.tells → (r : Role) → IsReadBy (Playing run) r → r ≢ Input → d.left r ≡ []
-read_whole {run} {d = d} first second third program controls t =
+read_whole run {d = d} first second third program controls t =
     let after = told_before first.quiet.goes_on t in
     let later = told_before second.quiet.goes_on after in
     elim [

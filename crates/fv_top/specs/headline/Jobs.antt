@@ -1,7 +1,7 @@
 -- The jobs of a rack that is played (this project's profile).
 use Rattle.std.specs.Prelude.{◌≡◌, ℕ, IsTrue, List}
 use Rattle.fv_outside.specs.headline.Desk.{DeskState, File}
-use Rattle.fv_jobs.specs.headline.Jobs.{jobs_in}
+use Rattle.fv_top_program.specs.Jobs.{jobs_in}
 use Rattle.fv_top_words.specs.declared.manner.ProgramKind.TheVariants.{Rack}
 use Rattle.fv_top_words.specs.headline.Runs.{Run}
 use Rattle.fv_top_words.specs.headline.Commands.{Playing}

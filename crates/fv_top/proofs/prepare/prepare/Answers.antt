@@ -206,5 +206,5 @@ returns-clause-ready g c =
 pub returns-clause-whole : goal.returns-clause-whole
 returns-clause-whole g c = λ t.
     let run : Run = run_view c.args.run.now in
-    read_whole {run} c.load_playable.ensures.reads c.load_script.ensures.reads c.load_head.ensures.reads c.in_ok-playable.ensures.whole
+    read_whole run c.load_playable.ensures.reads c.load_script.ensures.reads c.load_head.ensures.reads c.in_ok-playable.ensures.whole
     c.in_ok-script.ensures.whole t
