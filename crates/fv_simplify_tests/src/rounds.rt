@@ -94,6 +94,17 @@ fn chained(alloc: Global, count: u64, deep: u64) -> Result<Graph, Fail> {
     graph_of(alloc, &lines, &lists, &[last.wrapping_sub(1)])
 }
 
+// The signal of the first chain that is this one in its own chain, where chains have so many signals; signal 0 is the input.
+fn in_first(place: u64, long: u64) -> u64 {
+    let Some(after) = place.checked_sub(1) else {
+        return 0;
+    };
+    match after.checked_rem(long) {
+        Some(within) => within.wrapping_add(1),
+        None => 0,
+    }
+}
+
 #[test]
 fn chains_are_read_as_one(rt: HostRuntime) -> Result<(), Fail> {
     let alloc = rt.alloc();
@@ -101,13 +112,8 @@ fn chains_are_read_as_one(rt: HostRuntime) -> Result<(), Fail> {
         let graph = chained(alloc, count, deep)?;
         let images = find(alloc, &graph)?;
         assert!(rt; folds(&graph, &images), "{count} {deep}");
-        // The signals of each chain are those of the first one; signal 0 is the input.
-        let long = deep.wrapping_mul(2);
         for (place, image) in images.iter().enumerate() {
-            let first = match (place as u64).checked_sub(1) {
-                Some(after) => after.wrapping_rem(long).wrapping_add(1),
-                None => 0,
-            };
+            let first = in_first(place as u64, deep.wrapping_mul(2));
             assert_eq!(rt; (count, deep, image.number()), (count, deep, first));
         }
     }
