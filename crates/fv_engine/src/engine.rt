@@ -1,12 +1,14 @@
 // The engine.
 
-ghost use Rattle.std.specs.Prelude.{◌≡◌, ℕ, ◌*◌, ◌++◌, ◌∷◌, [], ◌<◌, ◌≤◌, length, slice_index, false, IfOk, IfSome, IsSome, Some};
+ghost use Rattle.std.specs.Prelude.{◌≡◌, ℕ, ◌*◌, ◌++◌, ◌∷◌, [], ◌<◌, ◌≤◌, length, slice_index, true, false, All, IfOk, IfSome, IsSome, Some};
 ghost use Rattle.fv_base.specs.declared.limits.TheConstants.{DELAY_BUDGET, MOST_BLOCK, MOST_CHANNELS, MOST_VECTORS, MOST_WORKERS};
 ghost use Rattle.fv_signal.specs.Frames.{Stream};
 ghost use Rattle.fv_signal.specs.headline.Value.{Graph};
+ghost use Rattle.fv_outside.specs.declared.gate.Line.{Line};
 ghost use Rattle.fv_outside.specs.headline.Journal.{Told, BlockEntry};
 ghost use Rattle.fv_outside.specs.Journal.{room_after};
 ghost use Rattle.fv_loopcode.specs.headline.Code.{NamesHeld, NamesInput};
+ghost use Rattle.fv_pool.specs.Layout.{HaveRoom};
 ghost use Rattle.fv_pool.specs.Region.{cells_of};
 ghost use Rattle.fv_split_plan.specs.headline.View.{lane_info, code_of};
 ghost use Rattle.fv_split_plan.specs.headline.Plans.{PlanStands};
@@ -37,6 +39,17 @@ use std::thread::Threads;
 pub struct BlockReport {
     pub tasks: u64,
     pub alone: bool,
+}
+
+// Whether one worker ran a block alone where several were asked for, by whether several did.
+fn is_alone(workers: u32, spread: bool) -> bool
+    ensures several { workers ≡ 1 → result ≡ false }
+    ensures one { result ≡ true → spread ≡ false }
+{
+    if spread {
+        return false;
+    }
+    workers > 1
 }
 
 /// A plan that runs, block by block. All its lanes lie in one region, and each of its cells has a list.
@@ -130,9 +143,11 @@ impl Engine {
         // The output is that of the next frames, whatever frames and controls the engine stood for, and it then stands for them all.
         ensures goes_on { GoesOn self.old self.new frames input.now controls.now output.new }
 
-        // By one call the gate learns which loops the plan has and which of them read which, how many vectors ran, and in what order.
+        // By one call the gate learns which loops the plan has and which of them read which, how many vectors ran, and in what order; where
+        // the report says that one worker ran the block alone, by that one.
         ensures told { IfSome (G.told gate.new) (λ t. (before : Told) × (G.told gate.old ≡ Some before) × (entry : BlockEntry) × IsEntry self.old frames entry
-            × (t.entries ≡ before.entries ++ entry ∷ []) × (t.room ≡ room_after before.room entry)) }
+            × (t.entries ≡ before.entries ++ entry ∷ []) × (t.room ≡ room_after before.room entry)
+            × (result.alone ≡ true → All (λ (line : Line). line.worker ≡ 0) entry.lines)) }
 
         // Where the block is within its room, it is still told afterwards.
         ensures room { IfSome (G.told gate.old) (λ t. HasRoomForBlock t.room (tasks_told self.old frames) → IsSome (G.told gate.new)) }
@@ -158,9 +173,10 @@ impl Engine {
             self.plan.reads(),
             &self.runner.lines,
         );
+        let alone = is_alone(self.sizes.workers, spread);
         BlockReport {
             tasks: self.runner.tasks.len(),
-            alone: self.sizes.workers > 1 && !spread,
+            alone,
         }
     }
 
@@ -175,6 +191,8 @@ impl Engine {
     pub fn layout(&self) -> &Layout
         ensures value { result.now ≡ self.now.lengths }
         ensures lanes { HaveLengths self.now.plan self.now.block result.now }
+        // They lie side by side in it.
+        ensures room { HaveRoom result.now self.now.region }
     {
         &self.lanes.layout
     }

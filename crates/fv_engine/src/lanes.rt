@@ -60,6 +60,7 @@ impl Lanes {
             runner.new.lines.items job.now.plan.now.plan.now.outputs output.new }
         // By no more workers than there are.
         ensures who { (n : ℕ) → 1 ≤ n → IfSome crew.now (λ c. c.workers ≡ n) → All (λ (line : Line). line.worker < n) runner.new.lines.items }
+        ensures alone { result ≡ false → All (λ (line : Line). line.worker ≡ 0) runner.new.lines.items }
         ensures lanes { AreSameLanes self.old self.new }
         ensures runner { IsSameRunner (parts_of job.now.plan.now.plan.now) runner.old runner.new }
     {

@@ -1,4 +1,4 @@
-use Rattle.std.proofs.Common.{◌≡◌, ◌<◌, ℤ, List, length, map, refl, sym, ap, ◌∙◌, subst, arith}
+use Rattle.std.proofs.Common.{◌≡◌, ◌<◌, true, ℤ, List, length, map, refl, sym, ap, ◌∙◌, subst, arith}
 use Rattle.std.specs.Global.{Vec}
 use Rattle.std.specs.Vec.{with_items}
 use Rattle.std.proofs.lemmas.List.{with_items_is}
@@ -185,7 +185,10 @@ returns-clause-told g c =
     (c.run-spread.ensures.who inside.sizes.workers c.self.invariant.some_worker c.self.invariant.as_many)) in
     let is_entry : IsEntry c.args.self.now c.args.frames entry =
     record { tasks = is_same ∙ ap (λ (x : EngineView). tasks_told x c.args.frames) c.self.view_is; ordered = in_order; counted = count; who = who } in
-    IfSome_then (g.G.Gate.told c.block_done.new.self) c.block_done.ensures.entry (λ x h. (h.0, h.1, entry, is_entry, h.2, h.3))
+    let by_one : c.is_alone-alone.result ≡ true → All (λ (line : Line). line.worker ≡ 0) c.deref-2.result.now = λ alone.
+    subst (λ (x : List Line). All (λ (line : Line). line.worker ≡ 0) x) (sym c.deref-2.ensures.value)
+    (c.run-spread.ensures.alone (c.is_alone-alone.ensures.one alone)) in
+    IfSome_then (g.G.Gate.told c.block_done.new.self) c.block_done.ensures.entry (λ x h. (h.0, h.1, entry, is_entry, h.2, h.3, by_one))
 
 pub returns-clause-tasks : goal.returns-clause-tasks
 returns-clause-tasks g c =
