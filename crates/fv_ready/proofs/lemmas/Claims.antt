@@ -69,9 +69,8 @@ module _ {C Key : Type 0} (wires : Graph → Wires) (edge_of : C → ℕ) (key_o
             (whole_quiet wires edge_of key_of a s h id m.0 at ab d (claim_quiet n u (found == 0)) words' homes'
             (subst (λ (w : View C). IsKept wires edge_of key_of a record { words = words'; homes = homes'; views = set s.views id w }) e r.3)
             (other 0 (λ z. omega arith)) counts
-            (λ x c hx pos.
-            let q = all_noted (Rattle.fv_ready.specs.Rule.saw x c) s.views id m.0 d at in let w = counts x hx in let p = h.seen_between x c hx (omega arith) in
-            let p0 = p.0 in (omega arith, p.1))
+            (λ x c hx pos. let q = all_noted (Rattle.fv_ready.specs.Rule.saw x c) s.views id m.0 d at in let w = counts x hx in
+            let p = h.seen_between x c hx (omega arith) in let p0 = p.0 in (omega arith, p.1))
             (shown (found == 0) refl)),
         r.4,
       )
