@@ -138,8 +138,7 @@ def pitch(channel, near, rate=RATE):
     size, hop = count * 3 // 4, count // 4
     window = [0.5 - 0.5 * math.cos(2 * math.pi * (time + 0.5) / size) for time in range(size)]
     first, second = ([sample * weight for sample, weight in zip(channel[begin : begin + size], window)] for begin in (0, hop))
-    turned = cmath.phase(component(second, near, rate) / component(first, near, rate))
-    # The second window's own start turns the line by near * hop besides.
+    turned = cmath.phase(component(second, near, rate) / component(first, near, rate)) - 2 * math.pi * near * hop / rate
     return near + wrapped_phase(turned) * rate / (2 * math.pi * hop)
 
 
