@@ -80,6 +80,37 @@ def noise(frames, amplitude=FULL, seed=1):
     return [source.randint(-amplitude, amplitude) for _ in range(frames)]
 
 
+class Tones:
+    """A sum of sines that are multiples of ten hertz, first so that a filter settles and then one period to measure by."""
+
+    def __init__(self, frequencies, peak=30000, settle=9600, rate=RATE, seed=5):
+        self.frequencies, self.rate, self.period, self.settle = frequencies, rate, rate // 10, settle
+        source = random.Random(seed)
+        begins = [source.uniform(0, 2 * math.pi) for _ in frequencies]
+        turns = [2 * math.pi * frequency / rate for frequency in frequencies]
+        whole = [sum(math.sin(turn * time + begin) for turn, begin in zip(turns, begins)) for time in range(self.period)]
+        scale = peak / max(map(abs, whole))
+        whole = [round(sample * scale) for sample in whole]
+        count = settle + self.period
+        self.sound = [whole[(time - settle) % self.period] for time in range(count)]
+        self.given = [component(whole, frequency, rate) for frequency in frequencies]
+
+    def judge(self, ideal, tolerance, floor=-60.0, phase=False, channel=0):
+        """The gain of each frequency is the ideal one, within so many dB, where that is above the floor; and its phase likewise."""
+
+        def judge(outputs):
+            window = outputs[channel][self.settle :]
+            for frequency, given in zip(self.frequencies, self.given):
+                got, right = component(window, frequency, self.rate) / given, ideal(frequency)
+                if abs(max(decibels(got), floor) - max(decibels(right), floor)) > tolerance:
+                    return f"{decibels(got):.3f} dB at {frequency:g} Hz, where {decibels(right):.3f} dB is ideal, and {tolerance} dB the tolerance"
+                if phase and decibels(right) > floor and abs(got / right - 1) > 10 ** (tolerance / 20) - 1:
+                    return f"the gain {got:.4f} at {frequency:g} Hz, where {right:.4f} is ideal"
+            return None
+
+        return judge
+
+
 # ---- what whole numbers do
 
 
