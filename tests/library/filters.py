@@ -150,6 +150,8 @@ class Tool:
         return None
 
 
+RINGING = sine(480, 3000) + [0] * 3000
+NUMBERS = biquad_coefficients.coefficients("lowpass", 480, 6.5, RATE)
 LENGTHS = [round(40 + 50 * math.sin(frame / 9)) for frame in range(1500)]
 GAIN = {"lowshelf1": ("ga_db(-6), ", 10 ** (-6 / 20)), "highshelf1": ("ga_db(6), ", 10 ** (6 / 20))}
 WORDS = lambda kind: GAIN.get(kind, ("", 0.0))
@@ -166,7 +168,7 @@ ROWS = [
       for corner, tolerance in ((100, 120), (3000, 30), (12000, 120))),
     Row("fi_lowpass1", "a frequency that is a signal", "\\(f, x).(x : fi_lowpass1(f, 48000))", [[1000] * len(PROBE.sound), PROBE.sound],
         judge=PROBE.judge(first("lowpass1", 1000), 0.05, -50, phase=True)),
-    Row("fi_lowpass1", "9/20 of the rate is the highest", "fi_lowpass1(30000, 48000)", [PROBE.sound], judge=PROBE.judge(first("lowpass1", 21600), 0.3)),
+    Row("fi_lowpass1", "9/20 of the rate is the highest", "fi_lowpass1(30000, 48000)", [PROBE.sound], judge=PROBE.judge(first("lowpass1", 21600), 0.1)),
     Row("fi_lowpass1", "other rates", "fi_lowpass1(1000, 8000)", [PROBE.sound],
         judge=PROBE.judge(lambda frequency: 1 / (1 + sigma(frequency, 6000)), 0.05, -40)),
     Row("fi_lowpass1", "a constant comes out as it is", "fi_lowpass1(20, 48000)", [step(20000, 12345)], judge=settled(12345, 12000)),
@@ -198,6 +200,8 @@ ROWS = [
           judge=near([clipped(filtered(numbers[:3], numbers[3:], LOUD))], tolerance))
       for kind, corner, q, tolerance in (("lowpass", 20, 0.7071, 20), ("lowpass", 1000, 0.7071, 2), ("highpass", 1000, 2, 2), ("bandpass", 480, 4, 2), ("notch", 3000, 1, 2))
       for numbers in [biquad_coefficients.coefficients(kind, corner, q, RATE)]),
+    Row("fi_biquad", "there is room inside for a resonance of 6.5 times the loudest sine", called("lowpass", 480, 6.5), [RINGING],
+        judge=near([clipped(filtered(NUMBERS[:3], NUMBERS[3:], RINGING))], 3)),
     Row("fi_biquad", "a constant comes out exactly", called("lowpass", 20, 0.7071), [step(30000, 12345)], judge=settled(12345, 20000)),
     Row("fi_biquad", "nothing is left of silence, low and resonant", called("lowpass", 20, 4), [square(2400, 9600) + [0] * 60000], judge=goes_back(60000)),
     Row("fi_biquad", "no DC behind a highpass", called("highpass", 50, 0.7071), [BASED], judge=without_dc(0.2, 4800)),
@@ -213,17 +217,25 @@ ROWS = [
     *(Row(f"fi_svf_{kind}", "a constant comes out within 1", f"fi_svf_{kind}(20, 181, 48000)", [step(30000, 30000)], judge=settled(30000, 15000, 1)) for kind in ("lp", "notch", "ap")),
     *(Row(f"fi_svf_{kind}", "far too loud a resonance neither wraps nor sticks", f"fi_svf_{kind}(240, 4096, 48000)", [square(200, 40000) + [0] * 60000],
           judge=every(goes_back(90000), lambda outputs: None if 190 < crossings(outputs[0][20000:40000]) < 210 else "it has wrapped")) for kind in ("lp", "bp")),
+    Row("fi_svf_lp", "there is room inside for a resonance of 6.5 times the loudest sine", "fi_svf_lp(480, 1664, 48000)", [RINGING],
+        judge=near([clipped(second_order("lp", 480, 1664, RINGING))], 1500)),
+    *(Row("fi_svf_lp", f"{given} is {meant}", f"_ <: fi_svf_lp({given}, 48000), fi_svf_lp({meant}, 48000) : -", [SOUND], judge=settled(0, 0))
+      for given, meant in (("30000, 181", "12000, 181"), ("0, 181", "1, 181"), ("1000, 1", "1000, 128"), ("1000, 9999", "1000, 4096"))),
     Row("fi_svf_lp", "a frequency and a q that are signals", "\\(f, q, x).(x : fi_svf_lp(f, q, 48000))",
         [[1000] * len(SOFT.sound), [1024] * len(SOFT.sound), SOFT.sound], judge=SOFT.judge(second("lp", 1000, 1024), 0.1, -50, phase=True)),
     Row("fi_ff_comb", "lengths that move, and beyond both ends", "\\(d, x).(x : fi_ff_comb(80, d, 20000))", [LENGTHS, SOUND], expected=[kept(SOUND, 80, LENGTHS, 20000, True)]),
     Row("fi_ff_comb", "notches at odd multiples of half the distance", "fi_ff_comb(24, 24, 32768)", [impulse(64, 16000)],
         judge=responds(lambda frequency: 2 * abs(math.cos(math.pi * frequency * 24 / 48000)), [100, 500, 2000, 4000, 8000], 0.01, 16000)),
     Row("fi_fb_comb", "lengths that move, and beyond both ends", "\\(d, x).(x : fi_fb_comb(80, d, 20000))", [LENGTHS, SOUND], expected=[kept(SOUND, 80, LENGTHS, 20000, False)]),
+    Row("fi_fb_comb", "peaks at multiples of the distance, 1 / (1 - g) times as loud", "fi_fb_comb(24, 24, 16384)", [impulse(512)],
+        judge=responds(lambda frequency: 1 / (1 - 0.5 * cmath.exp(-2j * math.pi * frequency * 24 / 48000)), [0, 500, 1000, 2000, 7000, 8000], 0.02)),
     Row("fi_fb_comb", "a negative gain, at one sample", "fi_fb_comb(80, 1, -30000)", [SOUND], expected=[kept(SOUND, 80, [1] * 1500, -30000, False)]),
     Row("fi_fb_comb", "the tail comes to 0 and stays there", "fi_fb_comb(10, 7, 32767)", [impulse(240000)], judge=goes_back(7 * 32769)),
     Row("fi_fb_comb", "the loudest sounds neither wrap nor stick", "fi_fb_comb(10, 7, 32767)", [square(14, 4000) + [0] * 240000],
         judge=every(goes_back(4000 + 7 * 32769), within(-32768, 32767))),
     Row("fi_allpass_comb", "the allpass's own equation, toward 0", "fi_allpass_comb(80, 37, 20000)", [SOUND], expected=[allpass_comb(SOUND, 37, 20000)]),
+    *(Row("fi_allpass_comb", f"a length of {given} is {length}", f"fi_allpass_comb(50, {given}, 20000)", [SOUND], expected=[allpass_comb(SOUND, length, 20000)])
+      for given, length in ((50, 50), (51, 50), (1, 1), (0, 1))),
     Row("fi_allpass_comb", "as loud as it was, at every frequency", "fi_allpass_comb(80, 37, 22938)", [impulse(4000)],
         judge=responds(lambda frequency: 1.0, [0, 100, 648, 1000, 1297, 5000, 9000, 15000, 23000], 0.05)),
     Row("fi_allpass_comb", "the tail comes to 0 and stays there", "fi_allpass_comb(80, 37, 32000)", [square(74, 4000) + [0] * 40000], judge=goes_back(40000)),

@@ -3,7 +3,7 @@ import math
 
 from rows import FULL, Row, clip, divided, near, noise, wrap
 
-ENDS = [-32768, -32767, -3, -2, -1, 0, 1, 2, 3, 32766, 32767]
+ENDS = [-32768, -32767, -16385, -16384, -3, -2, -1, 0, 1, 2, 3, 16383, 16384, 32766, 32767]
 SOUND = ENDS + noise(200, seed=1)
 OTHER = noise(100, seed=2) + ENDS + [-32768, 32767] * 50
 WIDE = [-(2**31), 1 - 2**31, 2**31 - 1, -(2**30), 2**30, -32769, 32768] + ENDS + noise(200, 2**31 - 1, seed=3)
@@ -84,7 +84,7 @@ ROWS = [
         expected=list(zip(width_of(-32768, 32767, 65535), width_of(32767, -32768, 65535)))),
     *(Row("ga_crossfade", f"in between, to the nearest, place {place}", f"ga_crossfade({place})", [SOUND, SOUND[::-1]],
           expected=[[math.floor((one * (32768 - place) + other * place) / 32768 + 0.5) for one, other in zip(SOUND, SOUND[::-1])]])
-      for place in (0, 1, 10000, 16384, 32768)),
+      for place in (0, 1, 10000, 16384, 32767, 32768)),
     Row("ga_crossfade_power", "equal power of two that are not alike", "\\(c).((32767, 0 : ga_crossfade_power(c)), (0, 32767 : ga_crossfade_power(c)))",
         [PLACES], judge=power_fault),
     Row("ga_dry_wet", "none, half and all of an effect", "_ <: ga_dry_wet(0, *(-1)), ga_dry_wet(16384, @(2)), ga_dry_wet(32768, *(-1) : ga_clip)", [SOUND],

@@ -261,6 +261,7 @@ ROWS = [
     Row("os_pulse", "no width is silence", f"os_pulse({STEP}, 0)", frames=TIMES, judge=settled(0, 0)),
     Row("os_wave", "five numbers at the ends of 16 bits, with lines between", f"os_wave(waveform{{{', '.join(map(str, FIVE))}}}, {STEP})", frames=TIMES,
         expected=[tabled(FIVE, STEP)]),
+    Row("os_wave", "numbers that differ by one", f"os_wave(waveform{{0, 1}}, {2**32 // 512 + 2**17})", frames=TIMES, expected=[tabled([0, 1], 2**32 // 512 + 2**17)]),
     Row("os_wave", "one number is a constant", f"os_wave(waveform{{-77}}, {STEP})", frames=TIMES, expected=[[-77] * TIMES]),
     Row("os_wave", "its pitch within a cent", "os_wave(waveform{0, 23170, 32767, 23170, 0, -23170, -32767, -23170}, os_note(57, 48000))", frames=24000, judge=pitched(220)),
     Row("no_noise", "Faust's own generator, its upper half", "no_noise", frames=TIMES, expected=[generator(TIMES)]),
@@ -270,7 +271,7 @@ ROWS = [
     Row("no_lfsr", "the register's bits, its period and no DC", "no_lfsr", frames=70000, judge=register_fault),
     *(Row("no_sparse", f"{density} in 65536 frames", f"no_sparse({density})", frames=TIMES,
           expected=[[loud if choice + 32768 < density else 0 for choice, loud in zip(generator(2 * TIMES)[1::2], generator(2 * TIMES)[::2])]])
-      for density in (0, 500, 65536)),
+      for density in (0, 500, generator(3)[1] + 32768, generator(3)[1] + 32769, 65536)),
     *(Row("no_lfnoise0", f"a new level each turn, step {step}", f"no_lfnoise0({step})", frames=TIMES, expected=[held(step, generator(TIMES))]) for step in (0, SLOW, STEP)),
     *(Row("no_lfnoise", f"straight lines between levels, step {step}", f"no_lfnoise({step})", frames=TIMES, expected=[lines(step, generator(TIMES))]) for step in (0, SLOW, STEP)),
     Row("no_pink_filter", "the response of Kellet's poles within 0.1 dB", "no_pink_filter", [impulse(24000)],
