@@ -165,4 +165,5 @@ def main():
         draw(name, source)
 
 
-main()
+if __name__ == "__main__":
+    main()

@@ -48,6 +48,11 @@ def whole(numbers):
     return [b0, round(constant * (ONE + a1 + a2)) - b0 - b2, b2, a1, a2]
 
 
+def call(kind, frequency, q, rate, gain=0.0):
+    """The call of fi_biquad."""
+    return f"fi_biquad({', '.join(map(str, whole(coefficients(kind, frequency, q, rate, gain))))})"
+
+
 def main(words):
     if len(words) not in (4, 5) or words[0] not in KINDS:
         return f"KIND FREQUENCY Q RATE [GAIN] are wanted, where KIND is one of {', '.join(KINDS)}"
@@ -60,7 +65,7 @@ def main(words):
     if not (0 < frequency < rate / 2 and q > 0 and abs(gain) <= 40):
         return "FREQUENCY lies between 0 and half of RATE, Q is above 0, and GAIN within 40 decibels"
     try:
-        print(f"fi_biquad({', '.join(map(str, whole(coefficients(words[0], frequency, q, rate, gain))))})")
+        print(call(words[0], frequency, q, rate, gain))
     except ValueError as error:
         return str(error)
     return None

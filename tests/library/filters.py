@@ -65,7 +65,7 @@ def biquad(kind, corner, q, gain=0.0):
 
 def called(kind, corner, q, gain=0.0):
     """The call that the tool prints."""
-    return "fi_biquad({})".format(", ".join(map(str, biquad_coefficients.whole(biquad_coefficients.coefficients(kind, corner, q, RATE, gain)))))
+    return biquad_coefficients.call(kind, corner, q, RATE, gain)
 
 
 def filtered(b, a, sound):

@@ -1,0 +1,227 @@
+#!/usr/bin/env python3
+"""Draws what the definitions of the library do, one picture a group: `pictures/NAME.png`, which PICTURES.md shows. Responses go from 20
+to 20000 hertz, a decade as wide as the next, and 12 dB a line; waves and envelopes over time; spectrograms as those of the examples.
+
+Needs Python 3.9 or later with its zlib, and the program that tests/check-library plays."""
+import importlib.machinery
+import importlib.util
+import math
+import os
+import sys
+import tempfile
+
+sys.dont_write_bytecode = True
+FOLDER = os.path.dirname(os.path.realpath(__file__))
+TOP = os.path.dirname(FOLDER)
+
+
+def loaded(name, path):
+    loader = importlib.machinery.SourceFileLoader(name, os.path.join(TOP, path))
+    module = importlib.util.module_from_spec(importlib.util.spec_from_loader(name, loader))
+    loader.exec_module(module)
+    return module
+
+
+drawing = loaded("drawing", "examples/make_pictures.py")
+check = loaded("check_library", "tests/check-library")
+rows = loaded("rows", "tests/library/rows.py")
+biquad = loaded("biquad_coefficients", "library/biquad_coefficients.py")
+
+LEFT, WIDTH, RIGHT, GAP = 150, 440, 10, 12
+LOW, HIGH, RATE = 20, 20000, 48000
+COLOURS = [drawing.BLUE, (192, 80, 40), (60, 140, 60), drawing.GREY]
+PALE = (221, 221, 221)
+
+
+class Panel:
+    """One axis of a picture: its label, its height, and what draws it."""
+
+    def __init__(self, label, height, draw):
+        self.label, self.height, self.draw = label, height, draw
+
+
+def play(player, program, inputs=(), frames=None):
+    outputs = player.play(rows.Row("", "", program, inputs, frames))
+    if isinstance(outputs, str):
+        sys.exit(f"make_pictures.py: {program}: {outputs}")
+    return outputs
+
+
+def curve(picture, y, height, values, colour):
+    """A line through the values of the columns, from 0 at the foot to 1 at the head."""
+    places = [y + round((1 - max(0.0, min(1.0, value))) * (height - 1)) for value in values]
+    for x, (before, now) in enumerate(zip(places[:1] + places, places)):
+        picture.column(LEFT + x, min(before, now), max(before, now), colour)
+
+
+def level(picture, y, height, value):
+    """A pale line across at this value."""
+    row = y + round((1 - value) * (height - 1))
+    for x in range(WIDTH):
+        picture.dot(LEFT + x, row, PALE)
+
+
+def responses(label, programs, top=12, bottom=-48):
+    """How loud each frequency comes out of each program, in dB."""
+
+    def draw(player, picture, y, height):
+        for decibels in range(bottom, top + 1, 12):
+            level(picture, y, height, (decibels - bottom) / (top - bottom))
+        for frequency in (100, 1000, 10000):
+            at = round(math.log(frequency / LOW) / math.log(HIGH / LOW) * (WIDTH - 1))
+            picture.column(LEFT + at, y, y + height - 1, PALE)
+        for program, colour in zip(programs, COLOURS):
+            # Softer than the loudest, so that nothing is clipped.
+            answer = play(player, program, [rows.impulse(16384, 8192)])[0]
+            lines = [abs(one) / 8192 for one in drawing.transform([float(one) for one in answer])]
+            values = []
+            for x in range(WIDTH):
+                place = LOW * (HIGH / LOW) ** (x / (WIDTH - 1)) / RATE * 16384
+                whole, part = int(place), place - int(place)
+                gain = lines[whole] * (1 - part) + lines[whole + 1] * part
+                values.append((20 * math.log10(max(gain, 1e-6)) - bottom) / (top - bottom))
+            curve(picture, y, height, values, colour)
+
+    return Panel(label, 84, draw)
+
+
+def waves(label, program, frames, inputs=()):
+    """What the program gives over time, over all 16 bits."""
+
+    def draw(player, picture, y, height):
+        level(picture, y, height, 0.5)
+        for samples, colour in zip(play(player, program, inputs, frames), COLOURS):
+            parts = [samples[x * frames // WIDTH : (x + 1) * frames // WIDTH + 1] or [0] for x in range(WIDTH)]
+            for x, part in enumerate(parts):
+                head, foot = (y + round((1 - sample / 34000) * (height - 1) / 2) for sample in (max(part), min(part)))
+                picture.column(LEFT + x, head, foot, colour)
+
+    return Panel(label, 56, draw)
+
+
+def curves(label, program, inputs, greatest=32768):
+    """What the program gives, from 0 at the foot to the greatest."""
+
+    def draw(player, picture, y, height):
+        for samples, colour in zip(play(player, program, inputs), COLOURS):
+            curve(picture, y, height, [sample / greatest for sample in samples], colour)
+
+    return Panel(label, 84, draw)
+
+
+def spectrogram(label, program, frames):
+    """Up to a quarter of the rate, the darker, the louder."""
+
+    def draw(player, picture, y, height):
+        samples = play(player, program, frames=frames)[0]
+        weights = [math.sin(math.pi * k / 512) ** 2 for k in range(512)]
+        columns = []
+        for x in range(WIDTH):
+            start = x * (frames - 512) // (WIDTH - 1)
+            columns.append([abs(one) for one in drawing.transform([w * s for w, s in zip(weights, samples[start:])])[:256]])
+        loudest = max(map(max, columns)) or 1
+        for x, column in enumerate(columns):
+            for row in range(height):
+                low, high = ((height - row - k) * 256 // height for k in (1, 0))
+                loud = 1 + max(math.log10(max(column[low : max(high, low + 1)]) / loudest + 1e-9), -3) / 3
+                # In twelfths, so that the file stays small.
+                picture.dot(LEFT + x, y + row, tuple(round(255 + round(loud * 12) / 12 * (part - 255)) for part in (8, 48, 107)))
+
+    return Panel(label, 128, draw)
+
+
+def spectrum(label, program):
+    """The mean of many short spectra of a noise, in dB over the logarithm of the frequency."""
+
+    def draw(player, picture, y, height):
+        samples, size = play(player, program, frames=2**17)[0], 4096
+        weights = [math.sin(math.pi * k / size) ** 2 for k in range(size)]
+        power = [0.0] * (size // 2)
+        for start in range(0, len(samples) - size + 1, size):
+            for k, one in enumerate(drawing.transform([w * s for w, s in zip(weights, samples[start:])])[: size // 2]):
+                power[k] += abs(one) ** 2
+        for line in range(1, 4):
+            level(picture, y, height, line / 4)
+        decibels = []
+        for x in range(WIDTH):
+            low, high = (int(LOW * (HIGH / LOW) ** ((x + k * 8) / (WIDTH - 1)) / RATE * size) for k in (0, 1))
+            part = power[max(1, low) : max(1, low, min(high, size // 2 - 1)) + 1]
+            decibels.append(10 * math.log10(sum(part) / len(part) + 1))
+        curve(picture, y, height, [(one - 105) / 48 for one in decibels], drawing.BLUE)
+
+    return Panel(label, 84, draw)
+
+
+RAMP = [round(32768 * x / (WIDTH - 1)) for x in range(WIDTH)]
+SHAKEN = [2000 if time % 9600 < 4800 else 9000 for time in range(24000)]
+PICTURES = {
+    "filters": [
+        responses("first order", ["fi_lowpass1(1000, 48000)", "fi_highpass1(1000, 48000)", "fi_dcblocker"]),
+        responses("shelves", ["fi_lowshelf1(200, ga_db_tenths(60), 48000)", "fi_highshelf1(4000, ga_db(-12), 48000)"]),
+        responses("fi_svf_lp", [f"fi_svf_lp(1000, {q}, 48000)" for q in (181, 512, 1024)]),
+        responses("fi_svf_hp _bp _notch", ["fi_svf_hp(1000, 181, 48000)", "fi_svf_bp(1000, 1024, 48000)", "fi_svf_notch(1000, 256, 48000)"]),
+        responses("fi_biquad", [biquad.call("lowpass", 100, 0.7071, RATE), biquad.call("peak", 1000, 2, RATE, 9), biquad.call("highshelf", 5000, 0.7071, RATE, -12)]),
+        responses("combs", ["fi_ff_comb(48, 48, 32768)", "fi_fb_comb(48, 48, 22938)", "fi_allpass_comb(48, 48, 22938)"]),
+        responses("fi_moving_mean", ["fi_moving_mean(8)", "fi_moving_mean(48)"]),
+    ],
+    "oscillators": [
+        waves("os_osc", "os_osc(os_step(200, 48000))", 480),
+        waves("os_lf_saw", "os_lf_saw(os_step(200, 48000))", 480),
+        waves("os_saw", "os_saw(os_step(200, 48000))", 480),
+        waves("os_square", "os_square(os_step(200, 48000))", 480),
+        waves("os_pulse", "os_pulse(os_step(200, 48000), 8192)", 480),
+        waves("os_lf_triangle", "os_lf_triangle(os_step(200, 48000))", 480),
+        waves("os_wave", "os_wave(waveform{0, 30000, 10000, -10000, -30000}, os_step(200, 48000))", 480),
+        spectrogram("os_lf_saw rising", "os_lf_saw(os_step(500 + (+(1) ~ _) / 16, 48000))", 48000),
+        spectrogram("os_saw rising", "os_saw(os_step(500 + (+(1) ~ _) / 16, 48000))", 48000),
+    ],
+    "noises": [
+        spectrum("no_noise", "no_noise"),
+        spectrum("no_pink", "no_pink"),
+        spectrum("no_lfsr", "no_lfsr : ga_gain(16384)"),
+        waves("no_sparse", "no_sparse(200)", 12000),
+        waves("no_lfnoise0", "no_lfnoise0(os_step(100, 48000))", 12000),
+        waves("no_lfnoise", "no_lfnoise(os_step(100, 48000))", 12000),
+    ],
+    "delays": [
+        waves("de_multi_tap", "de_multi_tap((100, 400, 900, 1600), (32768, 23170, 16384, 11585))", 2000, [rows.impulse(2000)]),
+        waves("de_ping_pong left", "_, 0 : de_ping_pong(1000, 200, 26000) : _, !", 4000, [rows.impulse(4000)]),
+        waves("de_ping_pong right", "_, 0 : de_ping_pong(1000, 200, 26000) : !, _", 4000, [rows.impulse(4000)]),
+        waves("de_delay jumping", "\\(d, x).(x : de_delay(9000, d))", 24000, [SHAKEN, rows.sine(7, 24000, 30000)]),
+        waves("de_sdelay", "\\(d, x).(x : de_sdelay(9000, 2400, d))", 24000, [SHAKEN, rows.sine(7, 24000, 30000)]),
+        responses("de_fdelay half a sample", ["de_fdelay(4, 2048)"]),
+    ],
+    "gains": [
+        curves("ga_pan", "\\(p).(32767 : ga_pan(p))", [RAMP]),
+        curves("ga_pan_power", "\\(p).(32767 : ga_pan_power(p))", [RAMP]),
+        curves("ga_balance", "\\(p).(32767, 32767 : ga_balance(p))", [RAMP]),
+        curves("ga_db 60 to 0", "ga_db", [[x * 60 // (WIDTH - 1) - 60 for x in range(WIDTH)]]),
+        curves("ga_db_tenths", "ga_db_tenths", [[x * 600 // (WIDTH - 1) - 600 for x in range(WIDTH)]]),
+    ],
+}
+
+
+def draw(name, panels, player):
+    picture, y = drawing.Picture(LEFT + WIDTH + RIGHT, sum(panel.height + GAP for panel in panels) + GAP), GAP
+    for panel in panels:
+        picture.text(LEFT - 6, y + panel.height // 2 - 3, panel.label, right=True)
+        panel.draw(player, picture, y, panel.height)
+        picture.frame(LEFT, y, WIDTH, panel.height)
+        y += panel.height + GAP
+    picture.save(os.path.join(FOLDER, "pictures", name + ".png"))
+
+
+def main(names):
+    unknown = [name for name in names if name not in PICTURES]
+    if unknown:
+        sys.exit(f"make_pictures.py: there is no picture {unknown[0]}; there are {', '.join(PICTURES)}")
+    os.makedirs(os.path.join(FOLDER, "pictures"), exist_ok=True)
+    program = os.path.abspath(os.environ.get("FAUSTVEC") or os.path.join(TOP, "dist/x86_64-linux/faustvec"))
+    with tempfile.TemporaryDirectory() as folder:
+        player = check.Player(program, check.link.library(), folder)
+        for name in names or PICTURES:
+            draw(name, PICTURES[name], player)
+
+
+if __name__ == "__main__":
+    main(sys.argv[1:])
