@@ -154,13 +154,14 @@ def spectrum(label, program):
 
 RAMP = [round(32768 * x / (WIDTH - 1)) for x in range(WIDTH)]
 SHAKEN = [2000 if time % 9600 < 4800 else 9000 for time in range(24000)]
+BIQUADS = [("lowpass", 100, 0.7071, RATE), ("peak", 1000, 2, RATE, 9), ("highshelf", 5000, 0.7071, RATE, -12)]
 PICTURES = {
     "filters": [
         responses("first order", ["fi_lowpass1(1000, 48000)", "fi_highpass1(1000, 48000)", "fi_dcblocker"]),
         responses("shelves", ["fi_lowshelf1(200, ga_db_tenths(60), 48000)", "fi_highshelf1(4000, ga_db(-12), 48000)"]),
         responses("fi_svf_lp", [f"fi_svf_lp(1000, {q}, 48000)" for q in (181, 512, 1024)]),
-        responses("fi_svf_hp _bp _notch", ["fi_svf_hp(1000, 181, 48000)", "fi_svf_bp(1000, 1024, 48000)", "fi_svf_notch(1000, 256, 48000)"]),
-        responses("fi_biquad", [biquad.call("lowpass", 100, 0.7071, RATE), biquad.call("peak", 1000, 2, RATE, 9), biquad.call("highshelf", 5000, 0.7071, RATE, -12)]),
+        responses("fi_svf_hp _bp _notch", [f"fi_svf_{kind}(1000, {q}, 48000)" for kind, q in (("hp", 181), ("bp", 1024), ("notch", 256))]),
+        responses("fi_biquad", [biquad.call(*one) for one in BIQUADS]),
         responses("combs", ["fi_ff_comb(48, 48, 32768)", "fi_fb_comb(48, 48, 22938)", "fi_allpass_comb(48, 48, 22938)"]),
         responses("fi_moving_mean", ["fi_moving_mean(8)", "fi_moving_mean(48)"]),
     ],

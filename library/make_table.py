@@ -31,7 +31,8 @@ def table(library):
     for definition in library.public():
         if definition.path != path:
             path = definition.path
-            lines += ["", f"**[`{os.path.basename(path)}`]({os.path.basename(path)})**", "", "| call | what it is | in Faust |", "|---|---|---|"]
+            name = os.path.basename(path)
+            lines += ["", f"**[`{name}`]({name})**", "", "| call | what it is | in Faust |", "|---|---|---|"]
         call, _, what = definition.comment[0].partition(": ")
         cells = [f"`{call}`", what, field(definition.comment, "Faust", "Use")]
         lines.append("| " + " | ".join(cell.replace("|", "\\|") for cell in cells) + " |")

@@ -8,7 +8,7 @@ import tempfile
 TOP = os.path.realpath(os.path.join(os.path.dirname(os.path.abspath(__file__)), "../.."))
 
 AA = """// aa_one: the number one.
-aa_one = 1; // behind it
+aa_one = 1; // after it
 
 /* between
    two lines */ // aa_not_here = 3;
@@ -42,7 +42,8 @@ class Call:
             if self.program is not None:
                 with open(os.path.join(folder, "p.dsp"), "wb") as file:
                     file.write(self.program)
-            done = subprocess.run([sys.executable, command, *self.words], cwd=folder, input=self.stdin, stdout=subprocess.PIPE, stderr=subprocess.PIPE)
+            words = [sys.executable, command, *self.words]
+            done = subprocess.run(words, cwd=folder, input=self.stdin, stdout=subprocess.PIPE, stderr=subprocess.PIPE)
             if done.returncode != self.status:
                 return f"status {done.returncode} and {done.stderr.decode()!r}, where status {self.status} is expected"
             if done.stderr.decode() != self.said:
@@ -77,14 +78,15 @@ class Refused:
         with tempfile.TemporaryDirectory() as folder:
             path = os.path.join(folder, "p.dsp")
             player.written(path, self.text)
-            linked = subprocess.run([os.path.join(TOP, "bin/link"), path], stdout=subprocess.PIPE, stderr=subprocess.DEVNULL, check=True).stdout
-            other = player.written(os.path.join(folder, "q.dsp"), linked)
+            words = [sys.executable, os.path.join(TOP, "bin/link"), path]
+            linked = subprocess.run(words, stdout=subprocess.PIPE, stderr=subprocess.DEVNULL, check=True)
+            other = player.written(os.path.join(folder, "q.dsp"), linked.stdout)
             alone, together = player.call("check", path), player.call("check", other)
         return None if alone == together and alone[0] == 3 else f"{alone} alone, {together} linked"
 
 
 def lines_are_the_files(printed):
-    """Each line behind `// from library/NAME.dsp:LINE` is that line of the file, its comments apart."""
+    """Each line after `// from library/NAME.dsp:LINE` is that line of the file, its comments apart."""
     texts = {"library/aa.dsp": AA.split("\n"), "library/ab.dsp": AB.split("\n")}
     place = None
     for line in printed.decode().split("\n"):
@@ -113,41 +115,89 @@ ROWS = [
     Call("a text that needs nothing is printed alone", ["p.dsp"], b"process = _;\n", b"process = _;\n"),
     Call("an empty text stays empty", ["p.dsp"], b"", b""),
     Call("a text gets an end of its last line", ["p.dsp"], b"process = _; // no end", b"process = _; // no end\n"),
-    Call("bytes beyond ASCII, and ends of lines of other systems, stay", ["p.dsp"], b"// \xff\xc3\xa9\r\nprocess = aa_add;\r\n",
-         b"// \xff\xc3\xa9\r\nprocess = aa_add;\r\n// linked from p.dsp\n// from library/aa.dsp:12\naa_add = + ;\n"),
-    Call("what is needed, directly or not, in the library's order", ["p.dsp"], b"process = aa_two(3);\n", b"process = aa_two(3);\n" + TWO),
-    Call("lines and columns are those of the library's file", ["p.dsp"], b"process = aa_rules(3), ab_last;\n", after=lines_are_the_files),
-    Call("a name within a string or a comment is none", ["p.dsp"], b'process = button("aa_two"); // aa_one\n/* ab_last */\n',
-         b'process = button("aa_two"); // aa_one\n/* ab_last */\n'),
-    Call("each rule of a name, and a string that keeps its slashes", ["p.dsp"], b"process = aa_rules(2);\n",
-         b"process = aa_rules(2);\n// linked from p.dsp\n// from library/aa.dsp:2\naa_one = 1;\n// from library/aa.dsp:14\naa_rules(0) = aa_one;\n"
-         b"// from library/aa.dsp:15\naa_rules(n) = aa_rules(n - 1) : label\n"
-         b'with { label = *(vslider("aa_two // not a comment", 1, 1, 9, 1)); };\n'),
-    Call("one's own name wins, also where the library uses it", ["p.dsp"], b"aa_one = 7; process = aa_two(3);\n",
-         b"aa_one = 7; process = aa_two(3);\n" + TWO.replace(b"// from library/aa.dsp:2\naa_one = 1;\n", b"")),
-    Call("a name with rules of one's own wins", ["p.dsp"], b"aa_add(0) = _;\naa_add(n) = n;\nprocess = aa_add;\n",
-         b"aa_add(0) = _;\naa_add(n) = n;\nprocess = aa_add;\n"),
+    Call(
+        "bytes beyond ASCII, and ends of lines of other systems, stay", ["p.dsp"],
+        b"// \xff\xc3\xa9\r\nprocess = aa_add;\r\n",
+        b"// \xff\xc3\xa9\r\nprocess = aa_add;\r\n// linked from p.dsp\n// from library/aa.dsp:12\naa_add = + ;\n",
+    ),
+    Call(
+        "what is needed, directly or not, in the library's order", ["p.dsp"],
+        b"process = aa_two(3);\n", b"process = aa_two(3);\n" + TWO,
+    ),
+    Call(
+        "lines and columns are those of the library's file", ["p.dsp"],
+        b"process = aa_rules(3), ab_last;\n",
+        after=lines_are_the_files,
+    ),
+    Call(
+        "a name within a string or a comment is none", ["p.dsp"],
+        b'process = button("aa_two"); // aa_one\n/* ab_last */\n', b'process = button("aa_two"); // aa_one\n/* ab_last */\n',
+    ),
+    Call(
+        "each rule of a name, and a string that keeps its slashes", ["p.dsp"],
+        b"process = aa_rules(2);\n",
+        b"process = aa_rules(2);\n// linked from p.dsp\n// from library/aa.dsp:2\naa_one = 1;\n"
+        b"// from library/aa.dsp:14\naa_rules(0) = aa_one;\n"
+        b"// from library/aa.dsp:15\naa_rules(n) = aa_rules(n - 1) : label\n"
+        b'with { label = *(vslider("aa_two // not a comment", 1, 1, 9, 1)); };\n',
+    ),
+    Call(
+        "one's own name wins, also where the library uses it", ["p.dsp"],
+        b"aa_one = 7; process = aa_two(3);\n",
+        b"aa_one = 7; process = aa_two(3);\n" + TWO.replace(b"// from library/aa.dsp:2\naa_one = 1;\n", b""),
+    ),
+    Call(
+        "a name with rules of one's own wins", ["p.dsp"],
+        b"aa_add(0) = _;\naa_add(n) = n;\nprocess = aa_add;\n", b"aa_add(0) = _;\naa_add(n) = n;\nprocess = aa_add;\n",
+    ),
     Call("a linked text needs nothing more", ["p.dsp"], b"process = aa_two(3);\n" + TWO, b"process = aa_two(3);\n" + TWO),
-    Call("standard input", ["-"], stdin=b"process = aa_add;", text=b"process = aa_add;\n// linked from -\n// from library/aa.dsp:12\naa_add = + ;\n"),
-    Call("where it is installed", ["p.dsp"], b"process = aa_add;\n", installed=True,
-         text=b"process = aa_add;\n// linked from p.dsp\n// from library/aa.dsp:12\naa_add = + ;\n"),
-    Call("a name that looks like the library's", ["p.dsp"], b"process = aa_tow, ac_tow, x with { ab_x = 1; x = ab_x; };\n",
-         b"process = aa_tow, ac_tow, x with { ab_x = 1; x = ab_x; };\n", "link: p.dsp: the library has no aa_tow; the nearest is aa_two\n"),
-    Call("a text whose last definition does not end", ["p.dsp"], b"process = aa_two(3)", b"process = aa_two(3)",
-         "link: p.dsp: nothing is linked, since its last definition has no ; behind it\n"),
-    Call("a text with an open bracket", ["p.dsp"], b"process = aa_two(3;\n", b"process = aa_two(3;\n",
-         "link: p.dsp: nothing is linked, since a bracket in it is not closed\n"),
-    Call("a text with an open comment", ["p.dsp"], b"process = aa_add; /* and\n", b"process = aa_add; /* and\n",
-         "link: p.dsp: nothing is linked, since a comment in it never ends\n"),
-    Call("a text with an open string", ["p.dsp"], b'declare a "aa_add; process = _;\n', b'declare a "aa_add; process = _;\n',
-         "link: p.dsp: nothing is linked, since a string in it never ends\n"),
+    Call(
+        "standard input", ["-"],
+        stdin=b"process = aa_add;", text=b"process = aa_add;\n// linked from -\n// from library/aa.dsp:12\naa_add = + ;\n",
+    ),
+    Call(
+        "where it is installed", ["p.dsp"],
+        b"process = aa_add;\n",
+        installed=True, text=b"process = aa_add;\n// linked from p.dsp\n// from library/aa.dsp:12\naa_add = + ;\n",
+    ),
+    Call(
+        "a name that looks like the library's", ["p.dsp"],
+        b"process = aa_tow, ac_tow, x with { ab_x = 1; x = ab_x; };\n",
+        b"process = aa_tow, ac_tow, x with { ab_x = 1; x = ab_x; };\n",
+        "link: p.dsp: the library has no aa_tow; the nearest is aa_two\n",
+    ),
+    Call(
+        "a text whose last definition does not end", ["p.dsp"],
+        b"process = aa_two(3)", b"process = aa_two(3)",
+        "link: p.dsp: nothing is linked, since its last definition does not end with ;\n",
+    ),
+    Call(
+        "a text with an open bracket", ["p.dsp"],
+        b"process = aa_two(3;\n", b"process = aa_two(3;\n", "link: p.dsp: nothing is linked, since a bracket in it is not closed\n",
+    ),
+    Call(
+        "a text with an open comment", ["p.dsp"],
+        b"process = aa_add; /* and\n", b"process = aa_add; /* and\n",
+        "link: p.dsp: nothing is linked, since a comment in it never ends\n",
+    ),
+    Call(
+        "a text with an open string", ["p.dsp"],
+        b'declare a "aa_add; process = _;\n', b'declare a "aa_add; process = _;\n',
+        "link: p.dsp: nothing is linked, since a string in it never ends\n",
+    ),
     Call("the list", ["--list"], text=b"aa_one     the number one.\naa_two(x)  twice x; \"quoted\", ab_one.\n"),
     Call("help", ["--help"], after=lambda printed: None if b"bin/link PROGRAM" in printed else f"it prints {printed!r}"),
     Call("a program that is not there", ["none.dsp"], text=b"", said="link: none.dsp: No such file or directory\n", status=2),
     Call("a folder", ["bin"], text=b"", said="link: bin: Is a directory\n", status=2),
     Call("no word", [], text=b"", said="link: one PROGRAM (- is standard input), --list or --help is wanted\n", status=2),
-    Call("a word too many", ["p.dsp", "q.dsp"], text=b"", said="link: one PROGRAM (- is standard input), --list or --help is wanted\n", status=2),
-    Call("an option that is not there", ["--lits"], text=b"", said="link: one PROGRAM (- is standard input), --list or --help is wanted\n", status=2),
+    Call(
+        "a word too many", ["p.dsp", "q.dsp"],
+        text=b"", said="link: one PROGRAM (- is standard input), --list or --help is wanted\n", status=2,
+    ),
+    Call(
+        "an option that is not there", ["--lits"],
+        text=b"", said="link: one PROGRAM (- is standard input), --list or --help is wanted\n", status=2,
+    ),
     Refused(b"process = ga_gain(3),\n  ga_gain;;\n"),
     Refused(b"process = ga_gain(3)"),
     Refused(b"process = ga_gain(3) /* never\n"),

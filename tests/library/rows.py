@@ -96,14 +96,14 @@ class Tones:
         self.given = [component(whole, frequency, rate) for frequency in frequencies]
 
     def judge(self, ideal, tolerance, floor=-60.0, phase=False, channel=0):
-        """The gain of each frequency is the ideal one, within so many dB, where that is above the floor; and its phase likewise."""
+        """The gain of each frequency is the ideal one, within this many dB, where that is above the floor; and its phase likewise."""
 
         def judge(outputs):
             window = outputs[channel][self.settle :]
             for frequency, given in zip(self.frequencies, self.given):
                 got, right = component(window, frequency, self.rate) / given, ideal(frequency)
                 if abs(max(decibels(got), floor) - max(decibels(right), floor)) > tolerance:
-                    return f"{decibels(got):.3f} dB at {frequency:g} Hz, where {decibels(right):.3f} dB is ideal, and {tolerance} dB the tolerance"
+                    return away(got, right, frequency, tolerance)
                 if phase and decibels(right) > floor and abs(got / right - 1) > 10 ** (tolerance / 20) - 1:
                     return f"the gain {got:.4f} at {frequency:g} Hz, where {right:.4f} is ideal"
             return None
@@ -184,6 +184,11 @@ def cents(frequency, other):
 # ---- judges of the first output
 
 
+def away(got, right, frequency, tolerance):
+    """What is said of a gain that is too far from the ideal one."""
+    return f"{decibels(got):.3f} dB at {frequency:g} Hz, where {decibels(right):.3f} dB within {tolerance} dB is ideal"
+
+
 def within(least, greatest):
     """No sample of any output leaves this range."""
 
@@ -204,28 +209,27 @@ def near(wanted, tolerance, first=0):
         for channel, (got, right) in enumerate(zip(outputs, wanted)):
             for frame in range(first, len(right)):
                 if abs(got[frame] - right[frame]) > tolerance:
-                    return f"output {channel}, frame {frame}: {got[frame]}, where {right[frame]:.2f} is ideal, and {tolerance} the tolerance"
+                    return f"output {channel}, frame {frame}: {got[frame]}, where {right[frame]:.2f} within {tolerance} is ideal"
         return None
 
     return judge
 
 
 def responds(ideal, frequencies, tolerance, height=FULL, rate=RATE, floor=-200.0):
-    """The answer to an impulse has the ideal gain, within so many dB, at these frequencies; below the floor both may be anything."""
+    """The answer to an impulse has the ideal gain, within this many dB, at these frequencies; below the floor both may be anything."""
 
     def judge(outputs):
         for frequency in frequencies:
-            got = decibels(response(outputs[0], frequency, height, rate))
-            right = decibels(ideal(frequency))
-            if abs(max(got, floor) - max(right, floor)) > tolerance:
-                return f"{got:.3f} dB at {frequency:g} Hz, where {right:.3f} dB is ideal, and {tolerance} dB the tolerance"
+            got, right = response(outputs[0], frequency, height, rate), ideal(frequency)
+            if abs(max(decibels(got), floor) - max(decibels(right), floor)) > tolerance:
+                return away(got, right, frequency, tolerance)
         return None
 
     return judge
 
 
 def pitched(frequency, tolerance=1.0, rate=RATE):
-    """The note's pitch is within so many cents."""
+    """The note's pitch is within this many cents."""
 
     def judge(outputs):
         got = pitch(outputs[0], frequency, rate)
