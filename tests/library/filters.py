@@ -202,10 +202,21 @@ ROWS = [
         "fi_lowpass1(30000, 48000)", [PROBE.sound],
         judge=PROBE.judge(first("lowpass1", 21600), 0.1),
     ),
-    Row(
-        "fi_lowpass1", "other rates",
-        "fi_lowpass1(1000, 8000)", [PROBE.sound],
-        judge=PROBE.judge(lambda frequency: 1 / (1 + sigma(frequency, 6000)), 0.05, -40),
+    *(
+        Row(
+            "fi_lowpass1", f"{corner} Hz at {rate} frames a second",
+            f"fi_lowpass1({corner}, {rate})", [PROBE.sound],
+            judge=PROBE.judge(first("lowpass1", corner * RATE / rate), 0.05, -40, phase=True),
+        )
+        for corner, rate in ((1000, 8000), (1111, 11025), (4410, 44100), (4000, 192000), (48000, 192000), (80000, 192000))
+    ),
+    *(
+        Row(
+            "fi_svf_lp", f"{corner} Hz at {rate} frames a second",
+            f"fi_svf_lp({corner}, 181, {rate})", [SOFT.sound],
+            judge=SOFT.judge(second("lp", corner * RATE / rate, 181), 0.2, -40, phase=True),
+        )
+        for corner, rate in ((1000, 8000), (1111, 11025), (4410, 44100), (48000, 192000))
     ),
     Row(
         "fi_lowpass1", "a constant comes out as it is",
