@@ -60,6 +60,10 @@ def second(kind, corner, q):
     return lambda frequency: SECOND[kind](sigma(frequency, corner), 256 / q)
 
 
+def bell(corner, q, gain):
+    return lambda frequency: 1 + (gain - 1) * second("bp", corner, q)(frequency)
+
+
 def biquad(kind, corner, q, gain=0.0):
     return lambda frequency: KINDS[kind](sigma(frequency, corner), q, 10 ** (gain / 40))
 
@@ -359,6 +363,27 @@ ROWS = [
         )
         for kind in ("lp", "bp")
     ),
+    *(
+        Row(
+            "fi_svf_bell", f"the input and {decibels} dB of a bandpass, within 0.1 dB",
+            f"fi_svf_bell(1000, 512, ga_db({decibels}), 48000)", [SOFT.sound],
+            judge=SOFT.judge(bell(1000, 512, 10 ** (decibels / 20)), 0.1, -50, phase=True),
+        )
+        for decibels in (6, 0, -6, -12)
+    ),
+    Row("fi_svf_bell", "a gain of one is the input itself", "fi_svf_bell(1000, 512, 32768, 48000)", [SOUND], expected=[SOUND]),
+    Row(
+        "fi_svf_bell", "no gain is the notch",
+        "_ <: fi_svf_bell(1000, 512, 0, 48000), fi_svf_notch(1000, 512, 48000) : -", [LOUD],
+        judge=settled(0, 0),
+    ),
+    Row("fi_svf_bell", "a constant comes out within 1", "fi_svf_bell(50, 181, 65535, 48000)", [step(20000, 30000)], judge=settled(30000, 10000, 1)),
+    Row(
+        "fi_svf_bell", "the ideal filter on the loudest sounds, clipped",
+        "fi_svf_bell(1000, 512, 65535, 48000)", [LOUD],
+        judge=near([clipped([one + (65535 / 32768 - 1) * other for one, other in zip(LOUD, second_order("bp", 1000, 512, LOUD))])], 200),
+    ),
+    Row("fi_svf_bell", "nothing is left of silence", "fi_svf_bell(100, 2560, 65535, 48000)", [LOUD + [0] * 24000], judge=goes_back(24000)),
     Row(
         "fi_svf_lp", "there is room inside for a resonance of 6.5 times the loudest sine",
         "fi_svf_lp(480, 1664, 48000)", [RINGING],

@@ -145,6 +145,7 @@ ROWS = [
         "one's own name wins, also where the library uses it", ["p.dsp"],
         b"aa_one = 7; process = aa_two(3);\n",
         b"aa_one = 7; process = aa_two(3);\n" + TWO.replace(b"// from library/aa.dsp:2\naa_one = 1;\n", b""),
+        "link: p.dsp: its own aa_one stands for the library's in aa_two too\n",
     ),
     Call(
         "a name with rules of one's own wins", ["p.dsp"],
