@@ -229,6 +229,7 @@ ROWS = [
     ),
     Row("fi_lowpass1", "nothing is left of silence", "fi_lowpass1(20, 48000)", [impulse(20000)], judge=goes_back(12000)),
     Row("fi_lowpass1", "0 hertz is silence", "fi_lowpass1(0, 48000)", [SOUND], judge=settled(0, 0)),
+    Row("fi_highpass1", "0 hertz is the input itself", "fi_highpass1(0, 48000)", [SOUND], expected=[SOUND]),
     Row("fi_highpass1", "a constant comes to exactly 0", "fi_highpass1(20, 48000)", [step(20000, -32768)], judge=goes_back(12000)),
     Row("fi_highpass1", "no DC of noise with DC", "fi_highpass1(200, 48000)", [BASED], judge=without_dc(0.2, 4800)),
     Row(
