@@ -27,8 +27,8 @@ show_progress() {
     seconds=$((seconds + 1))
     [ -f "$1" ] && all=$(whole_size "$1") && size=$(stat -c %s -- "$1") && [ "$size" -gt 44 ] || continue
     left=$(((all - size) * seconds / size))
-    printf '\r%3d %% %d:%02d:%02d\033[K\r' $((size * 100 / all)) $((left / 3600)) $((left / 60 % 60)) $((left % 60)) >&3
     is_shown=yes
+    printf '\r%3d %% %d:%02d:%02d\033[K\r' $((size * 100 / all)) $((left / 3600)) $((left / 60 % 60)) $((left % 60)) >&3
   done
 }
 
