@@ -2,7 +2,8 @@
 # program with these words, and chooses how the work is cut where they leave that open. Before it the caller sets `program`, the
 # program's path, `here`, the folder of this file, and `explain`, the command that explains a refused program, which need not be there.
 # The caller answers nothing itself: what it does not let pass, the program refuses, by its own rules and in their order.
-# A run that is accepted costs no other process, since most of the time that a short program takes is that of its callers.
+# A run that is accepted costs no other process, but where a word has bytes beyond ASCII, since most of the time that a short program
+# takes is that of its callers.
 
 # Where one of the standard descriptors is closed, the next file that is opened would take its place, and an output at descriptor 1
 # would get the report after its samples. What is opened here at descriptor 1 takes no report, so the program says that it failed.
