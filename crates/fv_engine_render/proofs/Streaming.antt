@@ -138,7 +138,7 @@ streamed_none b fresh = record {
   run = record {
     lengths = [];
     cut = refl;
-    told = ran_none b.engine.plan.loops b.engine.plan.reads b.sizes.vector b.told;
+    told = ran_none b.sizes.workers b.engine.plan.loops b.engine.plan.reads b.sizes.vector b.told;
     blocks_are = refl;
     loops_are = refl;
     runs_are = refl;
@@ -153,6 +153,7 @@ pub record Block (b : Start) (r : Come) (next : EngineView) (new : Option Told) 
   pub look : (g : Graph) → ValuesLookBack g
   pub outputs : b.outputs ≡ length b.engine.plan.outputs
   pub vector : b.sizes.vector ≡ b.engine.vector
+  pub workers : b.sizes.workers ≡ b.engine.workers
   pub here : r.frame < b.sizes.frames
   pub cut : n ≡ block_at b.sizes.block b.sizes.frames b.changes r.frame
   pub some : 1 ≤ n
@@ -181,7 +182,7 @@ pub block_more : {b : Start} {r : Come} {next : EngineView} {new : Option Told} 
 block_more {b} {r} {next} {new} {n} {tasks} {piece} {controls} {out} loops loops_are i k =
     let e = b.engine in let ns = i.run.lengths in let f = r.frame in let sizes = b.sizes in
     let are : tasks ≡ e.plan.loops * vectors_of n e.vector = k.count ∙ ap (λ (v : EngineView). v.plan.loops * vectors_of n v.vector) i.same in
-    let TellsOf : ℕ → List ℕ → Option Told → Type 0 = λ v ms t. RanBlocks e.plan.loops e.plan.reads v ms b.told t in
+    let TellsOf : ℕ → ℕ → List ℕ → Option Told → Type 0 = λ w v ms t. RanBlocks w e.plan.loops e.plan.reads v ms b.told t in
     let follows : Follows e r.engine next (control_streams b.changes b.initial) f n b.outputs r.heard piece controls r.all out = record {
       look = k.look;
       same = i.same;
@@ -204,8 +205,10 @@ block_more {b} {r} {next} {new} {n} {tasks} {piece} {controls} {out} loops loops
         lengths = ns ++ n ∷ [];
         cut = subst (λ (m : ℕ). AreBlocks sizes.block sizes.frames b.changes 0 (f + m) (ns ++ m ∷ [])) (sym k.cut)
             (one_more sizes.block sizes.frames b.changes 0 f ns i.run.cut k.here);
-        told = subst (λ v. TellsOf v (ns ++ n ∷ []) new) (sym k.vector)
-            (ran_more e r.engine ns n b.told r.told new i.same (subst (λ v. TellsOf v ns r.told) k.vector i.run.told) k.told);
+        told = subst (λ w. TellsOf w sizes.vector (ns ++ n ∷ []) new) (sym k.workers)
+            (subst (λ v. TellsOf e.workers v (ns ++ n ∷ []) new) (sym k.vector)
+            (ran_more e r.engine ns n b.told r.told new i.same (subst (λ v. TellsOf e.workers v ns r.told) k.vector
+            (subst (λ w. TellsOf w sizes.vector ns r.told) k.workers i.run.told)) k.told));
         blocks_are = let a = i.run.blocks_are in let c = length_push ns n in omega (arith, a, c);
         loops_are = loops_are ∙ sym (loops_some (r.ran.blocks + 1) e.plan.loops (omega arith));
         runs_are = ap (λ x. x + tasks) i.run.runs_are

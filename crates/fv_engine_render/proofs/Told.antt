@@ -1,12 +1,13 @@
 -- One block more is told and counted.
-use Rattle.std.proofs.Common.{◌≡◌, ℕ, ◌+◌, ◌*◌, length, arith, List, [], ◌∷◌, ◌++◌, Option, Some, None, refl, sym, ap, subst, ◌∙◌, append_assoc, append-nil}
-use Rattle.std.proofs.Common.{true≢false}
-use Rattle.std.specs.Prelude.{IfSome, IsSome, unwrap_or}
+use Rattle.std.proofs.Common.{◌≡◌, ℕ, ◌+◌, ◌*◌, ◌<◌, length, arith, List, [], ◌∷◌, ◌++◌, Option, Some, None, refl, sym, ap, subst, ◌∙◌}
+use Rattle.std.proofs.Common.{append_assoc, append-nil, true≢false}
+use Rattle.std.specs.Prelude.{All, IfSome, IsSome, unwrap_or}
 use Rattle.std.proofs.lemmas.List.Sums.{sum_by_push, sum-map}
 use Rattle.std.proofs.Math.Nat.{mul_comm}
 use Rattle.fv_outside.specs.declared.tasks.Reads.{Reads}
 use Rattle.fv_outside.specs.headline.Tasks.{Tasks}
 use Rattle.fv_outside.specs.Tasks.{task_count}
+use Rattle.fv_outside.specs.declared.gate.Line.{Line}
 use Rattle.fv_outside.specs.headline.Journal.{BlockEntry, Room, Told, IsOrdered}
 use Rattle.fv_outside.specs.Journal.{room_after}
 use Rattle.fv_engine.specs.Block.{vectors_of}
@@ -20,30 +21,36 @@ TellsBlock now n old new =
     IfSome new (λ t. (before : Told) × (old ≡ Some before) × (entry : BlockEntry) × IsEntry now n entry
     × (t.entries ≡ before.entries ++ entry ∷ []) × (t.room ≡ room_after before.room entry))
 
-entries_more : (loops : ℕ) (reads : List Reads) (vector : ℕ) (ns : List ℕ) (es : List BlockEntry) (n : ℕ) (e : BlockEntry)
-    → AreEntries loops reads vector ns es → e.tasks ≡ record { loops = loops; vectors = vectors_of n vector; reads = reads }
-    → IsOrdered e.tasks e.lines → AreEntries loops reads vector (ns ++ n ∷ []) (es ++ e ∷ [])
-entries_more loops reads vector [] [] n e h t o = (t, o, tt)
-entries_more loops reads vector [] (x ∷ es) n e h t o = absurd h
-entries_more loops reads vector (m ∷ ns) [] n e h t o = absurd h
-entries_more loops reads vector (m ∷ ns) (x ∷ es) n e h t o = (h.0, h.1, entries_more loops reads vector ns es n e h.2 t o)
+-- each line is of one of so many workers
+abbrev AreBy : ℕ → List Line → Type 0
+AreBy workers lines = All (λ (line : Line). line.worker < workers) lines
+
+entries_more : (workers loops : ℕ) (reads : List Reads) (vector : ℕ) (ns : List ℕ) (es : List BlockEntry) (n : ℕ) (e : BlockEntry)
+    → AreEntries workers loops reads vector ns es → e.tasks ≡ record { loops = loops; vectors = vectors_of n vector; reads = reads }
+    → IsOrdered e.tasks e.lines → AreBy workers e.lines → AreEntries workers loops reads vector (ns ++ n ∷ []) (es ++ e ∷ [])
+entries_more workers loops reads vector [] [] n e h t o w = (t, o, w, tt)
+entries_more workers loops reads vector [] (x ∷ es) n e h t o w = absurd h
+entries_more workers loops reads vector (m ∷ ns) [] n e h t o w = absurd h
+entries_more workers loops reads vector (m ∷ ns) (x ∷ es) n e h t o w =
+    (h.0, h.1, h.2, entries_more workers loops reads vector ns es n e h.3 t o w)
 
 -- nothing is told of no blocks
-pub ran_none : (loops : ℕ) (reads : List Reads) (vector : ℕ) (told : Option Told) → RanBlocks loops reads vector [] told told
-ran_none loops reads vector None = tt
-ran_none loops reads vector (Some t) = (t, refl, [], tt, sym (append-nil t.entries))
+pub ran_none : (workers loops : ℕ) (reads : List Reads) (vector : ℕ) (told : Option Told) → RanBlocks workers loops reads vector [] told told
+ran_none workers loops reads vector None = tt
+ran_none workers loops reads vector (Some t) = (t, refl, [], tt, sym (append-nil t.entries))
 
 -- one block more
 pub ran_more : (e now : EngineView) (ns : List ℕ) (n : ℕ) (old mid new : Option Told) → SameParts e now
-    → RanBlocks e.plan.loops e.plan.reads e.vector ns old mid → TellsBlock now n mid new
-    → RanBlocks e.plan.loops e.plan.reads e.vector (ns ++ n ∷ []) old new
+    → RanBlocks e.workers e.plan.loops e.plan.reads e.vector ns old mid → TellsBlock now n mid new
+    → RanBlocks e.workers e.plan.loops e.plan.reads e.vector (ns ++ n ∷ []) old new
 ran_more e now ns n old mid None same h k = tt
 ran_more e now ns n old mid (Some t) same h k =
-    let b = subst (λ (o : Option Told). RanBlocks e.plan.loops e.plan.reads e.vector ns old o) k.1 h in (
+    let b = subst (λ (o : Option Told). RanBlocks e.workers e.plan.loops e.plan.reads e.vector ns old o) k.1 h in (
       b.0,
       b.1,
       b.2 ++ k.2 ∷ [],
-      entries_more e.plan.loops e.plan.reads e.vector ns b.2 n k.2 b.3 (k.3.tasks ∙ ap (λ (v : EngineView). tasks_told v n) same) k.3.ordered,
+      entries_more e.workers e.plan.loops e.plan.reads e.vector ns b.2 n k.2 b.3 (k.3.tasks ∙ ap (λ (v : EngineView). tasks_told v n) same) k.3.ordered
+          (subst (λ w. AreBy w k.2.lines) (ap (λ (v : EngineView). v.workers) same) k.3.who),
       k.4 ∙ ap (λ xs. xs ++ k.2 ∷ []) b.4 ∙ append_assoc b.0.entries b.2 (k.2 ∷ []),
     )
 

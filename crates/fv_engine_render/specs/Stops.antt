@@ -33,6 +33,7 @@ pub record IsSetFor (d : Diagram) (cs : List ControlInfo) (s : RunSizes) (r : Re
   pub fresh : IsNew r.engine
   pub block : r.engine.block ≡ s.block
   pub vector : r.engine.vector ≡ s.vector
+  pub workers : r.engine.workers ≡ s.workers
   pub initial : r.values.items ≡ initial_of cs
   pub hears : length r.heard.items ≡ s.block * inputs d
   pub says : length r.said.items ≡ s.block * outputs d

@@ -46,7 +46,8 @@ pub(crate) fn engine(
     requires few { channels ≤ MOST_CHANNELS }
     requires sizes { CanHave sizes.now }
     ensures plan { IfOk result (λ e. e.plan ≡ plan) }
-    ensures sizes { IfOk result (λ e. (e.channels ≡ channels) × (e.block ≡ sizes.now.block) × (e.vector ≡ sizes.now.vector)) }
+    ensures sizes { IfOk result (λ e. (e.channels ≡ channels) × (e.block ≡ sizes.now.block) × (e.vector ≡ sizes.now.vector)
+        × (e.workers ≡ sizes.now.workers)) }
     ensures stands { IfOk result IsNew }
 {
     match Engine::prepare(

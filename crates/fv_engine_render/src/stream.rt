@@ -43,7 +43,7 @@ pub(crate) fn play_tape<R: Threads + Wait + Sync, G: Gate + Sync, W, T: Tape<W>>
     gate: &mut G,
 ) -> Result<Ran, T::Stop>
     requires some { 1 ≤ sizes.now.block }
-    requires sizes { (sizes.now.block ≡ engine.old.block) × (sizes.now.vector ≡ engine.old.vector) }
+    requires sizes { (sizes.now.block ≡ engine.old.block) × (sizes.now.vector ≡ engine.old.vector) × (sizes.now.workers ≡ engine.old.workers) }
     requires plan { IsSizeOf engine.old plan.now }
     requires order { NeverFall 0 changes.now }
     requires named { AllByRecursion (λ c. c.control < length values.old) changes.now }

@@ -1,7 +1,8 @@
 -- How a run is cut into blocks, and what a gate is told of them (this project's profile).
-use Rattle.std.specs.Prelude.{◌≡◌, ℕ, ◌+◌, ◌-◌, ◌*◌, ◌<◌, ◌≤◌, nat_lt, if◌then◌else◌, min, List, [], ◌∷◌, ◌++◌, sum, map, Option, Some}
+use Rattle.std.specs.Prelude.{◌≡◌, ℕ, ◌+◌, ◌-◌, ◌*◌, ◌<◌, ◌≤◌, nat_lt, if◌then◌else◌, min, List, [], ◌∷◌, ◌++◌, sum, map, All, Option, Some}
 use Rattle.std.specs.Prelude.{IfSome, IsSome}
 use Rattle.fv_outside.specs.declared.tasks.Reads.{Reads}
+use Rattle.fv_outside.specs.declared.gate.Line.{Line}
 use Rattle.fv_outside.specs.headline.Journal.{BlockEntry, Room, Told, IsOrdered}
 use Rattle.fv_control.specs.declared.script.Change.{Change}
 use Rattle.fv_engine.specs.Block.{vectors_of}
@@ -21,22 +22,25 @@ abbrev pub AreBlocks : (block total : ℕ) → List Change → (f g : ℕ) → L
 AreBlocks block total changes f g [] = f ≡ g
 AreBlocks block total changes f g (n ∷ ns) = (f < total) × (n ≡ block_at block total changes f) × AreBlocks block total changes (f + n) g ns
 
--- What is told of blocks of these lengths: one entry for each, in order, all with the same loops and reads, and a journal in order.
-abbrev pub AreEntries : (loops : ℕ) → (reads : List Reads) → (vector : ℕ) → List ℕ → List BlockEntry → Type 0
-AreEntries loops reads vector [] [] = Unit {0}
-AreEntries loops reads vector [] (e ∷ es) = ⊥
-AreEntries loops reads vector (n ∷ ns) [] = ⊥
-AreEntries loops reads vector (n ∷ ns) (e ∷ es) =
-    (e.tasks ≡ record { loops = loops; vectors = vectors_of n vector; reads = reads }) × IsOrdered e.tasks e.lines × AreEntries loops reads vector ns es
+-- What is told of blocks of these lengths: one entry for each, in order, all with the same loops and reads, and a journal in order, in
+-- which each line is of one of so many workers.
+abbrev pub AreEntries : (workers loops : ℕ) → (reads : List Reads) → (vector : ℕ) → List ℕ → List BlockEntry → Type 0
+AreEntries workers loops reads vector [] [] = Unit {0}
+AreEntries workers loops reads vector [] (e ∷ es) = ⊥
+AreEntries workers loops reads vector (n ∷ ns) [] = ⊥
+AreEntries workers loops reads vector (n ∷ ns) (e ∷ es) =
+    (e.tasks ≡ record { loops = loops; vectors = vectors_of n vector; reads = reads }) × IsOrdered e.tasks e.lines
+    × All (λ (line : Line). line.worker < workers) e.lines × AreEntries workers loops reads vector ns es
 
 -- the loops that ran: each loop once for each vector
 abbrev pub loop_runs_of : (loops vector : ℕ) → List ℕ → ℕ
 loop_runs_of loops vector ns = sum (map (λ n. loops * vectors_of n vector) ns)
 
--- Blocks of these lengths ran, of these loops and reads: where the gate still tells its list, it was told just them, in order.
-abbrev pub RanBlocks : (loops : ℕ) → (reads : List Reads) → (vector : ℕ) → List ℕ → (old new : Option Told) → Type 0
-RanBlocks loops reads vector ns old new =
-    IfSome new (λ after. (before : Told) × (old ≡ Some before) × (entries : List BlockEntry) × AreEntries loops reads vector ns entries
+-- Blocks of these lengths ran, by so many workers, of these loops and reads: where the gate still tells its list, it was told just them, in
+-- order.
+abbrev pub RanBlocks : (workers loops : ℕ) → (reads : List Reads) → (vector : ℕ) → List ℕ → (old new : Option Told) → Type 0
+RanBlocks workers loops reads vector ns old new =
+    IfSome new (λ after. (before : Told) × (old ≡ Some before) × (entries : List BlockEntry) × AreEntries workers loops reads vector ns entries
     × (after.entries ≡ before.entries ++ entries))
 
 -- there is room for so many calls, lines and pairs

@@ -19,8 +19,8 @@ pub record HasRun (p : PlanView) (s : RunSizes) (changes : List Change) (f : ℕ
   pub lengths : List ℕ
   pub cut : AreBlocks s.block s.frames changes 0 f lengths
   -- where the gate still tells its list, it was told one entry for each block: the plan's loops and reads, the block's vectors,
-  -- and a journal in which each loop ran once on each vector, after all that it reads
-  pub told : RanBlocks p.loops p.reads s.vector lengths old new
+  -- and a journal in which each loop ran once on each vector, after all that it reads, by one of the workers that were asked for
+  pub told : RanBlocks s.workers p.loops p.reads s.vector lengths old new
   pub blocks_are : r.blocks ≡ length lengths
   pub loops_are : r.loops ≡ loops_in r.blocks p.loops
   pub runs_are : r.loop_runs ≡ loop_runs_of p.loops s.vector lengths

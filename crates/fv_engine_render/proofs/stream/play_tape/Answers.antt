@@ -2,6 +2,7 @@ use Rattle.std.proofs.Common.{◌≡◌, ℕ, ◌+◌, ◌*◌, ◌<◌, [], ◌
 use Rattle.std.proofs.Common.{length-drop}
 use Rattle.std.specs.List.{AllByRecursion}
 use Rattle.std.proofs.Math.Seq.{length-take-le}
+use Rattle.std.proofs.lemmas.Option.{IfSome_then}
 use Rattle.fv_control.specs.declared.script.Change.{Change}
 use Rattle.fv_control.specs.headline.Streams.{control_streams}
 use Rattle.fv_outside.specs.Acts.{Hearing, Saying}
@@ -136,6 +137,7 @@ returns-in-Err-say-clause-stops g c =
       look = c.values_look_back.ensures;
       outputs = c.requires.plan.outputs;
       vector = c.requires.sizes.1;
+      workers = c.requires.sizes.2;
       here = c.playing-test.true;
       cut = begins.cut;
       some = c.begin_block-behind.ensures.some;
@@ -146,7 +148,7 @@ returns-in-Err-say-clause-stops g c =
       same = c.run_block-report.ensures.same;
       on = c.run_block-report.ensures.goes_on;
       given = given c.values_held.ensures c.controls_hold.ensures begins;
-      told = c.run_block-report.ensures.told;
+      told = IfSome_then (told c.run_block-report.new.gate) c.run_block-report.ensures.told (λ t h. (h.0, h.1, h.2, h.3, h.4, h.5));
       room = c.run_block-report.ensures.room;
       count = c.run_block-report.ensures.tasks;
       small = search rules;
@@ -177,6 +179,7 @@ playing-preserved g c =
       look = c.values_look_back.ensures;
       outputs = c.requires.plan.outputs;
       vector = c.requires.sizes.1;
+      workers = c.requires.sizes.2;
       here = c.playing-test.true;
       cut = begins.cut;
       some = c.begin_block-behind.ensures.some;
@@ -187,7 +190,7 @@ playing-preserved g c =
       same = c.run_block-report.ensures.same;
       on = c.run_block-report.ensures.goes_on;
       given = given c.values_held.ensures c.controls_hold.ensures begins;
-      told = c.run_block-report.ensures.told;
+      told = IfSome_then (told c.run_block-report.new.gate) c.run_block-report.ensures.told (λ t h. (h.0, h.1, h.2, h.3, h.4, h.5));
       room = c.run_block-report.ensures.room;
       count = c.run_block-report.ensures.tasks;
       small = search rules;

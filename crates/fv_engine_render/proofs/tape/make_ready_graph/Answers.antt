@@ -37,6 +37,7 @@ returns c = λ d can.
       fresh = e.stands;
       block = e.sizes.1;
       vector = e.sizes.2;
+      workers = e.sizes.3;
       initial = c.in_ok-values.ensures;
       hears = c.in_ok-heard.ensures ∙ ap (λ w. block * w) can.channels_are;
       says = c.in_ok-said.ensures ∙ ap (λ w. block * w) (ap length c.outputs.ensures.list ∙ can.of.width);
