@@ -4,6 +4,7 @@ ghost use Rattle.std.specs.Prelude.{◌≡◌, ◌<◌, ◌≤◌, length};
 ghost use Rattle.fv_engine_tests.specs.Runs.{IsSquare};
 
 use crate::engines::{Reported, Sizes, engine_of, play, play_graph};
+use crate::graphs::graph_of;
 use fv_engine::{Engine, NoMemory};
 use fv_outside::{FreeGate, Gate, Line, Reads, Recorder, Task};
 use fv_signal::Graph;
@@ -243,6 +244,39 @@ fn assert_ring<R: Abort + Threads + Wait + Sync>(
         [0, 0, 1, 2, 3, 4].as_slice(),
         "block {block}, workers {workers}"
     );
+    Ok(())
+}
+
+// One loop, of which no two tasks can run at once, runs alone where two workers are asked for, and is told as worker 0's, block by block.
+#[test]
+fn one_loop_runs_alone(rt: HostRuntime) -> Result<(), Fail> {
+    let graph = graph_of(rt.alloc(), "process = *(2);")?;
+    let sizes = Sizes {
+        width: 1,
+        block: 4,
+        vector: 4,
+        workers: 2,
+    };
+    let mut recorder = Recorder::new(rt.alloc(), 2, 2)?;
+    let mut output = [0; 5];
+    let input = [1, 2, 3, 4, 5];
+    let reported = play_graph(
+        &rt,
+        rt.alloc(),
+        &graph,
+        sizes,
+        5,
+        &input,
+        &mut output,
+        &mut recorder,
+    )?;
+    assert_eq!(rt;
+        (reported, output),
+        (Reported { tasks: 2, alone: 2 }, [2, 4, 6, 8, 10])
+    );
+    for block in 0..2 {
+        assert_told(&rt, &recorder, block, 1, &[], &[line(0, 0)]);
+    }
     Ok(())
 }
 
