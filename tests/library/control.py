@@ -60,9 +60,9 @@ def since_last(marks):
     return found
 
 
-GATE, OTHER = gates(LONG, 1), gates(LONG, 2, 60)
+GATE, OTHER, RESET = gates(LONG, 1), gates(LONG, 2, 60), held([0] * 9 + [1], LONG, 13)
 SOUND = noise(LONG, 32767, 3)
-TIMES = range(LONG)
+TIMES, RISES = range(LONG), rises(GATE)
 
 
 def run_lengths(gate):
@@ -74,16 +74,9 @@ def run_lengths(gate):
 
 
 def switched(on, off):
-    """1 from a frame of `on` to one of `off`, which wins."""
-    return [
-        int(not stop and any_since(is_open(on), frame, is_open(off))) for frame, stop in enumerate(is_open(off))
-    ]
-
-
-def any_since(wanted, frame, stops):
-    """Whether one of these is true after the last stop."""
-    begin = max((at for at in range(frame + 1) if stops[at]), default=-1)
-    return any(wanted[begin + 1 : frame + 1])
+    """1 where a frame of `on` came after the last one of `off`, or is this one, and this one is none of `off`."""
+    begun, ended = since_last(is_open(on)), since_last(is_open(off))
+    return [int(since is not None and (stop is None or since < stop)) for since, stop in zip(begun, ended)]
 
 
 TRIGGERS = [
@@ -125,9 +118,8 @@ CLOCKS = [
 ]
 
 COUNTS = [
-    Row("co_counter", "the rises since the reset", "co_counter", [held([0] * 9 + [1], LONG, 13), GATE],
-        expected=[[sum(rises(GATE)[begin + 1 : frame + 1]) if begin < frame else 0 for frame in TIMES
-                   for begin in [max((at for at in range(frame + 1) if at // 13 % 10 == 9), default=-1)]]]),
+    Row("co_counter", "the rises since the reset", "co_counter", [RESET, GATE],
+        expected=[[sum(RISES[frame + 1 - (frame + 1 if ago is None else ago) : frame + 1]) for frame, ago in enumerate(since_last(is_open(RESET)))]]),
     Row("co_count", "one step at each rise, the first is step 0", "co_count(5), co_count(1), co_count(0)", [GATE] * 3,
         expected=[[max(0, count - 1) % n for count in rises_up_to(GATE)] for n in (5, 1, 1)]),
     Row("co_divide", "the first rise and each n-th after it", "co_divide(4), co_divide(1), co_divide(0)", [GATE] * 3,
