@@ -3,7 +3,7 @@ was the last, how many steps were taken."""
 import math
 import random
 
-from rows import FULL, Row, divided, every, near, noise, settled, sine, step, within
+from rows import Row, every, near, noise, settled, sine, step
 
 LONG = 2000
 
@@ -82,16 +82,37 @@ def switched(on, off):
 TRIGGERS = [
     Row("co_rise", "each frame where a gate opens, the first one too", "co_rise", [GATE], expected=[numbers(rises(GATE))]),
     Row("co_rise", "a gate that is open from the start rises once", "co_rise", [[5, 5, 0, 1]], expected=[[1, 0, 0, 1]]),
-    Row("co_fall", "each frame where a gate closes", "co_fall", [GATE], expected=[numbers(rises([1 - now for now in [0] + numbers(is_open(GATE))])[1:])]),
-    Row("co_change", "each frame that differs from the one before", "co_change", [held([0, 4, 4, -1], LONG, 3)], expected=[numbers(frame and frame % 3 == 0 and frame // 3 % 4 in (0, 1, 3) for frame in TIMES)]),
+    Row(
+        "co_fall",
+        "each frame where a gate closes",
+        "co_fall",
+        [GATE],
+        expected=[numbers(rises([1 - now for now in [0] + numbers(is_open(GATE))])[1:])],
+    ),
+    Row(
+        "co_change",
+        "each frame that differs from the one before",
+        "co_change",
+        [held([0, 4, 4, -1], LONG, 3)],
+        expected=[numbers(frame and frame % 3 == 0 and frame // 3 % 4 in (0, 1, 3) for frame in TIMES)],
+    ),
     Row("co_toggle", "the parity of the rises so far", "co_toggle", [GATE], expected=[[count % 2 for count in rises_up_to(GATE)]]),
     Row("co_on_off", "on from the one to the other, which wins", "co_on_off", [GATE, OTHER], expected=[switched(GATE, OTHER)]),
     Row("co_on_off", "is off while both are open", "co_on_off", [[1, 1, 0, 0, 1], [0, 1, 1, 0, 0]], expected=[[1, 0, 0, 0, 1]]),
-    Row("co_schmitt", "a sine that trembles switches once a half turn", "co_schmitt(-4000, 4000)",
+    Row(
+        "co_schmitt",
+        "a sine that trembles switches once a half turn",
+        "co_schmitt(-4000, 4000)",
         [[swing + shake for swing, shake in zip(sine(48, 4000, 20000), noise(4000, 3000))]],
-        judge=lambda outputs: None if sum(rises(outputs[0])) == 4 else f"{sum(rises(outputs[0]))} times on, where 4 are wanted"),
-    Row("co_schmitt", "switches at its two levels and keeps between them", "co_schmitt(10, 20)", [[19, 20, 11, 10, 15, 19, 2000, 11, -5, 20]],
-        expected=[[0, 1, 1, 0, 0, 0, 1, 1, 0, 1]]),
+        judge=lambda outputs: None if sum(rises(outputs[0])) == 4 else f"{sum(rises(outputs[0]))} times on, where 4 are wanted",
+    ),
+    Row(
+        "co_schmitt",
+        "switches at its two levels and keeps between them",
+        "co_schmitt(10, 20)",
+        [[19, 20, 11, 10, 15, 19, 2000, 11, -5, 20]],
+        expected=[[0, 1, 1, 0, 0, 0, 1, 1, 0, 1]],
+    ),
 ]
 
 def beats(frames, rate, tempo):
@@ -104,44 +125,136 @@ BEATS = ((100, 7), (100, 6000), (100, 0), (44100, 130000), (192000, 997))
 
 CLOCKS = [
     Row("co_time", "the number of each frame", "co_time", frames=LONG, expected=[TIMES]),
-    Row("co_cycle", "the frame's number modulo n", "co_cycle(7), co_cycle(1), co_cycle(1999), co_cycle(0)", frames=LONG,
-        expected=[[time % n for time in TIMES] for n in (7, 1, 1999, 1)]),
+    Row(
+        "co_cycle",
+        "the frame's number modulo n",
+        "co_cycle(7), co_cycle(1), co_cycle(1999), co_cycle(0)",
+        frames=LONG,
+        expected=[[time % n for time in TIMES] for n in (7, 1, 1999, 1)],
+    ),
     Row("co_cycle", "the longest count does not wrap", "co_cycle(2147483647)", frames=LONG, expected=[TIMES]),
-    Row("co_sweep", "counts while it runs, from 0", "co_sweep(11), co_sweep(0)", [GATE, GATE],
-        expected=[[max(0, length - 1) % n for length in run_lengths(GATE)] for n in (11, 1)]),
-    Row("co_pulse", "1 in each n-th frame", "co_pulse(48), co_pulse(1), co_pulse(-5)", frames=LONG,
-        expected=[[int(time % n == 0) for time in TIMES] for n in (48, 1, 1)]),
-    Row("co_pulsen", "1 in the first frames of each n", "co_pulsen(10, 48), co_pulsen(0, 48), co_pulsen(48, 48), co_pulsen(1, 2)", frames=LONG,
-        expected=[[int(time % n < length) for time in TIMES] for length, n in ((10, 48), (0, 48), (48, 48), (1, 2))]),
-    Row("co_beat", "each beat is in the first frame at or after its exact time", ", ".join(f"co_beat({rate}, {tempo})" for rate, tempo in BEATS), frames=30000,
-        expected=[beats(30000, rate, tempo) for rate, tempo in BEATS]),
+    Row(
+        "co_sweep",
+        "counts while it runs, from 0",
+        "co_sweep(11), co_sweep(0)",
+        [GATE, GATE],
+        expected=[[max(0, length - 1) % n for length in run_lengths(GATE)] for n in (11, 1)],
+    ),
+    Row(
+        "co_pulse",
+        "1 in each n-th frame",
+        "co_pulse(48), co_pulse(1), co_pulse(-5)",
+        frames=LONG,
+        expected=[[int(time % n == 0) for time in TIMES] for n in (48, 1, 1)],
+    ),
+    Row(
+        "co_pulsen",
+        "1 in the first frames of each n",
+        "co_pulsen(10, 48), co_pulsen(0, 48), co_pulsen(48, 48), co_pulsen(1, 2)",
+        frames=LONG,
+        expected=[[int(time % n < length) for time in TIMES] for length, n in ((10, 48), (0, 48), (48, 48), (1, 2))],
+    ),
+    Row(
+        "co_beat",
+        "each beat is in the first frame at or after its exact time",
+        ", ".join(f"co_beat({rate}, {tempo})" for rate, tempo in BEATS),
+        frames=30000,
+        expected=[beats(30000, rate, tempo) for rate, tempo in BEATS],
+    ),
 ]
 
 COUNTS = [
-    Row("co_counter", "the rises since the reset", "co_counter", [RESET, GATE],
-        expected=[[sum(RISES[frame + 1 - (frame + 1 if ago is None else ago) : frame + 1]) for frame, ago in enumerate(since_last(is_open(RESET)))]]),
-    Row("co_count", "one step at each rise, the first is step 0", "co_count(5), co_count(1), co_count(0)", [GATE] * 3,
-        expected=[[max(0, count - 1) % n for count in rises_up_to(GATE)] for n in (5, 1, 1)]),
-    Row("co_divide", "the first rise and each n-th after it", "co_divide(4), co_divide(1), co_divide(0)", [GATE] * 3,
-        expected=[[int(rise and (count - 1) % n == 0) for rise, count in zip(rises(GATE), rises_up_to(GATE))] for n in (4, 1, 1)]),
-    Row("co_gate", "n frames from each rise on", "co_gate(10), co_gate(1), co_gate(0), co_gate(2147483647)", [GATE] * 4,
-        expected=[[int(ago is not None and ago < n) for ago in since_last(rises(GATE))] for n in (10, 1, 0, 2**31 - 1)]),
-    Row("co_countdown", "n while it is open, and then down to 0", "co_countdown(9), co_countdown(0)", [GATE] * 2,
-        expected=[[0 if ago is None else max(0, n - ago) for ago in since_last(is_open(GATE))] for n in (9, 0)]),
-    Row("co_countup", "0 while it is open, and then up to n", "co_countup(9), co_countup(0)", [GATE] * 2,
-        expected=[[min(n, frame + 1 if ago is None else ago) for frame, ago in enumerate(since_last(is_open(GATE)))] for n in (9, 0)]),
+    Row(
+        "co_counter",
+        "the rises since the reset",
+        "co_counter",
+        [RESET, GATE],
+        expected=[
+            [
+                sum(RISES[frame + 1 - (frame + 1 if ago is None else ago) : frame + 1])
+                for frame, ago in enumerate(since_last(is_open(RESET)))
+            ]
+        ],
+    ),
+    Row(
+        "co_count",
+        "one step at each rise, the first is step 0",
+        "co_count(5), co_count(1), co_count(0)",
+        [GATE] * 3,
+        expected=[[max(0, count - 1) % n for count in rises_up_to(GATE)] for n in (5, 1, 1)],
+    ),
+    Row(
+        "co_divide",
+        "the first rise and each n-th after it",
+        "co_divide(4), co_divide(1), co_divide(0)",
+        [GATE] * 3,
+        expected=[[int(rise and (count - 1) % n == 0) for rise, count in zip(rises(GATE), rises_up_to(GATE))] for n in (4, 1, 1)],
+    ),
+    Row(
+        "co_gate",
+        "n frames from each rise on",
+        "co_gate(10), co_gate(1), co_gate(0), co_gate(2147483647)",
+        [GATE] * 4,
+        expected=[[int(ago is not None and ago < n) for ago in since_last(rises(GATE))] for n in (10, 1, 0, 2**31 - 1)],
+    ),
+    Row(
+        "co_countdown",
+        "n while it is open, and then down to 0",
+        "co_countdown(9), co_countdown(0)",
+        [GATE] * 2,
+        expected=[[0 if ago is None else max(0, n - ago) for ago in since_last(is_open(GATE))] for n in (9, 0)],
+    ),
+    Row(
+        "co_countup",
+        "0 while it is open, and then up to n",
+        "co_countup(9), co_countup(0)",
+        [GATE] * 2,
+        expected=[
+            [min(n, frame + 1 if ago is None else ago) for frame, ago in enumerate(since_last(is_open(GATE)))]
+            for n in (9, 0)
+        ],
+    ),
 ]
 
 SAMPLES = [
-    Row("co_hold", "the value of the last frame that was open", "co_hold", [GATE, SOUND], expected=[last_where(is_open(GATE), SOUND)]),
-    Row("co_hold", "the ends of the range are held as they are", "co_hold", [[1, 0, 1, 0], [-(2**31), 1, 2**31 - 1, 2]],
-        expected=[[-(2**31), -(2**31), 2**31 - 1, 2**31 - 1]]),
+    Row(
+        "co_hold",
+        "the value of the last frame that was open",
+        "co_hold",
+        [GATE, SOUND],
+        expected=[last_where(is_open(GATE), SOUND)],
+    ),
+    Row(
+        "co_hold",
+        "the ends of the range are held as they are",
+        "co_hold",
+        [[1, 0, 1, 0], [-(2**31), 1, 2**31 - 1, 2]],
+        expected=[[-(2**31), -(2**31), 2**31 - 1, 2**31 - 1]],
+    ),
     Row("co_latch", "the value of the last rise", "co_latch", [GATE, SOUND], expected=[last_where(rises(GATE), SOUND)]),
-    Row("co_peak", "the greatest since the reset", "co_peak", [OTHER, SOUND],
-        expected=[[SOUND[frame] if ago == 0 else max(SOUND[frame - ago : frame + 1]) if ago is not None else max([0] + SOUND[: frame + 1])
-                   for frame, ago in enumerate(since_last(is_open(OTHER)))]]),
-    Row("co_steps", "the list's values in turn", "co_steps(waveform{60, -63, 70, 2147483647, 5})", [[0, 1, 2, 3, 4, 5, 9, 2147483647, -7]],
-        expected=[[60, -63, 70, 2147483647, 5, 60, 5, 70, 60]]),
+    Row(
+        "co_peak",
+        "the greatest since the reset",
+        "co_peak",
+        [OTHER, SOUND],
+        expected=[
+            [
+                SOUND[frame]
+                if ago == 0
+                else max(SOUND[frame - ago : frame + 1])
+                if ago is not None
+                else max([0] + SOUND[: frame + 1])
+                for frame, ago in enumerate(since_last(is_open(OTHER)))
+            ]
+        ],
+    ),
+    Row(
+        "co_steps",
+        "the list's values in turn",
+        "co_steps(waveform{60, -63, 70, 2147483647, 5})",
+        [[0, 1, 2, 3, 4, 5, 9, 2147483647, -7]],
+        expected=[[60, -63, 70, 2147483647, 5, 60, 5, 70, 60]],
+    ),
     Row("co_steps", "a list of one", "co_steps(waveform{9})", [[0, 1, 2, -2]], expected=[[9, 9, 9, 9]]),
 ]
 
@@ -167,13 +280,27 @@ def even_fault(outputs):
 
 
 EUCLID = [
-    Row("co_euclid", "rhythms that are known: tresillo, cinquillo, and four on the floor",
-        "_ <: co_euclid(3, 8), co_euclid(5, 8), co_euclid(4, 16), co_euclid(0, 4), co_euclid(4, 4)", [range(16)],
-        expected=[rhythm("x..x..x. x..x..x."), rhythm("x.x.xx.x x.x.xx.x"), rhythm("x...x...x...x..."), [0] * 16, [1] * 16]),
-    Row("co_euclid", "of each number up to 12 steps so many, spread evenly", "_ <: " + ", ".join(f"co_euclid({min(index % 17, index // 17)}, {index // 17})" for index in range(17, 221)), [range(48)],
-        judge=lambda outputs: even_fault([[0] * 48] * 17 + outputs)),
-    Row("co_euclid", "the longest pattern does not wrap", "co_euclid(23170, 46340)", [[0, 1, 2, 3, 46338, 46339, 2147483647]],
-        expected=[[1, 0, 1, 0, 1, 0, int(2147483647 % 46340 % 2 == 0)]]),
+    Row(
+        "co_euclid",
+        "rhythms that are known: tresillo, cinquillo, and four on the floor",
+        "_ <: co_euclid(3, 8), co_euclid(5, 8), co_euclid(4, 16), co_euclid(0, 4), co_euclid(4, 4)",
+        [range(16)],
+        expected=[rhythm("x..x..x. x..x..x."), rhythm("x.x.xx.x x.x.xx.x"), rhythm("x...x...x...x..."), [0] * 16, [1] * 16],
+    ),
+    Row(
+        "co_euclid",
+        "of each number up to 12 steps so many, spread evenly",
+        "_ <: " + ", ".join(f"co_euclid({min(index % 17, index // 17)}, {index // 17})" for index in range(17, 221)),
+        [range(48)],
+        judge=lambda outputs: even_fault([[0] * 48] * 17 + outputs),
+    ),
+    Row(
+        "co_euclid",
+        "the longest pattern does not wrap",
+        "co_euclid(23170, 46340)",
+        [[0, 1, 2, 3, 46338, 46339, 2147483647]],
+        expected=[[1, 0, 1, 0, 1, 0, int(2147483647 % 46340 % 2 == 0)]],
+    ),
 ]
 
 
@@ -238,20 +365,65 @@ def third_ways(n):
 
 
 SMOOTHERS = [
-    *(Row("co_smooth", f"the ideal smoother of n = {n}, jumps between full scales with it", f"co_smooth({n})", [JUMPS], judge=near([one_pole(JUMPS, n, n)], 1.01)) for n in (1, 2, 20, 100, 2000)),
-    Row("co_smooth", "a full-scale sine as the ideal one-pole has it", "co_smooth(48)", [SWING], judge=near([one_pole(SWING, 48, 48)], 1.01)),
+    *(
+        Row(
+            "co_smooth",
+            f"the ideal smoother of n = {n}, jumps between full scales with it",
+            f"co_smooth({n})",
+            [JUMPS],
+            judge=near([one_pole(JUMPS, n, n)], 1.01),
+        )
+        for n in (1, 2, 20, 100, 2000)
+    ),
+    Row(
+        "co_smooth",
+        "a full-scale sine as the ideal one-pole has it",
+        "co_smooth(48)",
+        [SWING],
+        judge=near([one_pole(SWING, 48, 48)], 1.01),
+    ),
     arrives(480, [32767, -32768, 1, 0, -1], 12000),
     arrives(20000, [300], 160000),
     Row("co_smooth", "63 % of the way after n frames", "co_smooth(480)", [step(1000)], judge=third_ways(480)),
-    Row("co_lag", "fast upwards and slow downwards, as the ideal one", "co_lag(10, 300), co_lag(300, 10)", [JUMPS, JUMPS],
-        judge=near([one_pole(JUMPS, 10, 300), one_pole(JUMPS, 300, 10)], 1.01)),
+    Row(
+        "co_lag",
+        "fast upwards and slow downwards, as the ideal one",
+        "co_lag(10, 300), co_lag(300, 10)",
+        [JUMPS, JUMPS],
+        judge=near([one_pole(JUMPS, 10, 300), one_pole(JUMPS, 300, 10)], 1.01),
+    ),
     Row("co_lag", "reaches a constant exactly from both sides", "co_lag(10, 300)", [step(9000, -777)], judge=settled(-777, 8000)),
-    Row("co_slew", "follows by steps of at most so much", "co_slew(100, 7), co_slew(0, 5), co_slew(5, 0), co_slew(1073741823, 1073741823)", [JUMPS] * 4,
-        expected=[slewed(JUMPS, up, down) for up, down in ((100, 7), (0, 5), (5, 0), (2**30 - 1, 2**30 - 1))]),
-    Row("co_slew", "the ends of its range do not wrap", "co_slew(1073741823, 1073741823)", [[2**30 - 1, -(2**30), 2**30 - 1, 0, -(2**30)]],
-        expected=[slewed([2**30 - 1, -(2**30), 2**30 - 1, 0, -(2**30)], 2**30 - 1, 2**30 - 1)]),
-    *(Row("co_line", f"straight lines of {n} frames, full scale with them", f"co_line({n})", [JUMPS], judge=near([lined(JUMPS, n)], 1.01)) for n in (1, 2, 100, 499, 700)),
-    Row("co_line", "arrives exactly after n frames and stays", "co_line(1000)", [[0] * 10 + [12345] * 3000], judge=every(settled(12345, 1009), lambda outputs: None if outputs[0][1008] != 12345 else "it is there a frame too early")),
+    Row(
+        "co_slew",
+        "follows by steps of at most so much",
+        "co_slew(100, 7), co_slew(0, 5), co_slew(5, 0), co_slew(1073741823, 1073741823)",
+        [JUMPS] * 4,
+        expected=[slewed(JUMPS, up, down) for up, down in ((100, 7), (0, 5), (5, 0), (2**30 - 1, 2**30 - 1))],
+    ),
+    Row(
+        "co_slew",
+        "the ends of its range do not wrap",
+        "co_slew(1073741823, 1073741823)",
+        [[2**30 - 1, -(2**30), 2**30 - 1, 0, -(2**30)]],
+        expected=[slewed([2**30 - 1, -(2**30), 2**30 - 1, 0, -(2**30)], 2**30 - 1, 2**30 - 1)],
+    ),
+    *(
+        Row(
+            "co_line",
+            f"straight lines of {n} frames, full scale with them",
+            f"co_line({n})",
+            [JUMPS],
+            judge=near([lined(JUMPS, n)], 1.01),
+        )
+        for n in (1, 2, 100, 499, 700)
+    ),
+    Row(
+        "co_line",
+        "arrives exactly after n frames and stays",
+        "co_line(1000)",
+        [[0] * 10 + [12345] * 3000],
+        judge=every(settled(12345, 1009), lambda outputs: None if outputs[0][1008] != 12345 else "it is there a frame too early"),
+    ),
     Row("co_line", "the longest line does not stick", "co_line(100000)", [[0] + [1] * 100200], judge=settled(1, 100000)),
 ]
 

@@ -111,37 +111,141 @@ def each(name, levels):
 STEPS = [32767, 30000, 20000, 10000, 5000, 3277, 3276, 1000, 300, 100, 30, 3]
 
 LOGARITHMS = [
-    Row("dy_log2", "4096 times the logarithm, within 2", "dy_log2", [LEVELS], judge=near([[4096 * math.log2(level) for level in LEVELS]], 2.0)),
-    Row("dy_log2", "exact at each power of two, and never falls", "dy_log2", [[2**k for k in range(31)]], expected=[[4096 * k for k in range(31)]]),
+    Row(
+        "dy_log2",
+        "4096 times the logarithm, within 2",
+        "dy_log2",
+        [LEVELS],
+        judge=near([[4096 * math.log2(level) for level in LEVELS]], 2.0),
+    ),
+    Row(
+        "dy_log2",
+        "exact at each power of two, and never falls",
+        "dy_log2",
+        [[2**k for k in range(31)]],
+        expected=[[4096 * k for k in range(31)]],
+    ),
     Row("dy_log2", "below 1 it is 0", "dy_log2", [[0, -1, -(2**31), 1]], expected=[[0, 0, 0, 0]]),
-    Row("dy_exp2", "the power of two, within 0.001 dB and one step", "dy_exp2", [range(-65536, 61440, 37)],
-        judge=lambda outputs: next((f"{got} at {l}, where {ONE * 2 ** (l / 4096):.2f} is ideal" for got, l in zip(outputs[0], range(-65536, 61440, 37))
-                                    if abs(got - ONE * 2 ** (l / 4096)) > 1.5 + ONE * 2 ** (l / 4096) * 0.000115), None)),
-    Row("dy_exp2", "exact at each octave, and 0 far below", "dy_exp2", [[0, 4096, 8192, 14 * 4096, -4096, -15 * 4096, -16 * 4096, -(2**31)]],
-        expected=[[ONE, 2 * ONE, 4 * ONE, ONE << 14, ONE // 2, 1, 0, 0]]),
-    Row("dy_exp2", "what is above its range is as the greatest", "dy_exp2 <: _, -(dy_exp2(61439))", [[61439, 61440, 2**31 - 1]], judge=lambda outputs: None if outputs[1] == [0, 0, 0] else f"{outputs[1]}"),
+    Row(
+        "dy_exp2",
+        "the power of two, within 0.001 dB and one step",
+        "dy_exp2",
+        [range(-65536, 61440, 37)],
+        judge=lambda outputs: next(
+            (
+                f"{got} at {l}, where {ONE * 2 ** (l / 4096):.2f} is ideal"
+                for got, l in zip(outputs[0], range(-65536, 61440, 37))
+                if abs(got - ONE * 2 ** (l / 4096)) > 1.5 + ONE * 2 ** (l / 4096) * 0.000115
+            ),
+            None,
+        ),
+    ),
+    Row(
+        "dy_exp2",
+        "exact at each octave, and 0 far below",
+        "dy_exp2",
+        [[0, 4096, 8192, 14 * 4096, -4096, -15 * 4096, -16 * 4096, -(2**31)]],
+        expected=[[ONE, 2 * ONE, 4 * ONE, ONE << 14, ONE // 2, 1, 0, 0]],
+    ),
+    Row(
+        "dy_exp2",
+        "what is above its range is as the greatest",
+        "dy_exp2 <: _, -(dy_exp2(61439))",
+        [[61439, 61440, 2**31 - 1]],
+        judge=lambda outputs: None if outputs[1] == [0, 0, 0] else f"{outputs[1]}",
+    ),
 ]
 
 COMPRESSORS = [
-    *(Row("dy_compressor", f"the static curve of {ratio}:1 at {threshold} dB, within 0.05 dB", each(f"dy_compressor({ratio}, {threshold}, 1, 100)", STEPS), [steady(level, 400) for level in STEPS],
-          judge=static(lambda level, ratio=ratio, threshold=threshold: -max(0.0, level - threshold) * (1 - 1 / ratio), STEPS, 0.05))
-      for ratio, threshold in ((2, -12), (4, -20), (1000, -40), (1, -30), (3, 0), (20, -50))),
-    Row("dy_compression", "the gain of the ideal follower and curve, of soft and loud noise, within 0.1 dB", "dy_compression(4, -30, 48, 2000)", [SOFT_TO_LOUD],
-        judge=every(gained(compression(SOFT_TO_LOUD, 4, -30, 48, 2000), 0.1), within(0, ONE))),
-    Row("dy_compression", "another sound is the key", "\\(x, key).(dy_compression(8, -40, 200, 1000, key))", [OTHER, BURSTS],
-        judge=every(gained(compression(BURSTS, 8, -40, 200, 1000), 0.1), within(0, ONE))),
-    Row("dy_compressor", "the gain's share of each sample at full scale", "_ <: dy_compressor(5, -24, 100, 800), dy_compression(5, -24, 100, 800), _", [square(96, 3000)], judge=applied),
-    Row("dy_compressor", "below the threshold nothing changes", "dy_compressor(4, -6, 1, 1000)", [[x // 2 for x in SOFT]], expected=[[x // 2 for x in SOFT]]),
-    Row("dy_compressor_stereo", "one gain, of the louder", "dy_compressor_stereo(4, -30, 48, 2000)", [SOFT_TO_LOUD, BURSTS],
-        judge=near([[sample * gain for sample, gain in zip(sound, compression([max(abs(a), abs(b)) for a, b in zip(SOFT_TO_LOUD, BURSTS)], 4, -30, 48, 2000))]
-                    for sound in (SOFT_TO_LOUD, BURSTS)], 40)),
-    *(Row("dy_expander", f"the static curve of 1:{ratio} at {threshold} dB, within 0.1 dB", each(f"dy_expander({ratio}, {threshold}, 1, 100)", STEPS[:10]), [steady(level, 400) for level in STEPS[:10]],
-          judge=static(lambda level, ratio=ratio, threshold=threshold: min(0.0, level - threshold) * (ratio - 1), STEPS[:10], 0.1))
-      for ratio, threshold in ((2, -12), (1, -20), (2, -40))),
-    Row("dy_expansion", "the gain of the ideal follower and curve, within 0.15 dB above -60 dB", "dy_expansion(3, -20, 48, 2000)", [SOFT_TO_LOUD],
-        judge=every(gained(expansion(SOFT_TO_LOUD, 3, -20, 48, 2000), 0.15, 0.001), within(0, ONE))),
-    Row("dy_expander", "from the threshold on nothing changes, and far below it is silent", "dy_expander(10, -30, 1, 100)", [steady(20000, 300) + steady(60, 900)],
-        judge=lambda outputs: None if outputs[0][:300] == steady(20000, 300) and not any(outputs[0][1100:]) else "it is changed, or is not silent"),
+    *(
+        Row(
+            "dy_compressor",
+            f"the static curve of {ratio}:1 at {threshold} dB, within 0.05 dB",
+            each(f"dy_compressor({ratio}, {threshold}, 1, 100)", STEPS),
+            [steady(level, 400) for level in STEPS],
+            judge=static(
+                lambda level, ratio=ratio, threshold=threshold: -max(0.0, level - threshold) * (1 - 1 / ratio),
+                STEPS,
+                0.05,
+            ),
+        )
+        for ratio, threshold in ((2, -12), (4, -20), (1000, -40), (1, -30), (3, 0), (20, -50))
+    ),
+    Row(
+        "dy_compression",
+        "the gain of the ideal follower and curve, of soft and loud noise, within 0.1 dB",
+        "dy_compression(4, -30, 48, 2000)",
+        [SOFT_TO_LOUD],
+        judge=every(gained(compression(SOFT_TO_LOUD, 4, -30, 48, 2000), 0.1), within(0, ONE)),
+    ),
+    Row(
+        "dy_compression",
+        "another sound is the key",
+        "\\(x, key).(dy_compression(8, -40, 200, 1000, key))",
+        [OTHER, BURSTS],
+        judge=every(gained(compression(BURSTS, 8, -40, 200, 1000), 0.1), within(0, ONE)),
+    ),
+    Row(
+        "dy_compressor",
+        "the gain's share of each sample at full scale",
+        "_ <: dy_compressor(5, -24, 100, 800), dy_compression(5, -24, 100, 800), _",
+        [square(96, 3000)],
+        judge=applied,
+    ),
+    Row(
+        "dy_compressor",
+        "below the threshold nothing changes",
+        "dy_compressor(4, -6, 1, 1000)",
+        [[x // 2 for x in SOFT]],
+        expected=[[x // 2 for x in SOFT]],
+    ),
+    Row(
+        "dy_compressor_stereo",
+        "one gain, of the louder",
+        "dy_compressor_stereo(4, -30, 48, 2000)",
+        [SOFT_TO_LOUD, BURSTS],
+        judge=near(
+            [
+                [
+                    sample * gain
+                    for sample, gain in zip(
+                        sound,
+                        compression([max(abs(a), abs(b)) for a, b in zip(SOFT_TO_LOUD, BURSTS)], 4, -30, 48, 2000),
+                    )
+                ]
+                for sound in (SOFT_TO_LOUD, BURSTS)
+            ],
+            40,
+        ),
+    ),
+    *(
+        Row(
+            "dy_expander",
+            f"the static curve of 1:{ratio} at {threshold} dB, within 0.1 dB",
+            each(f"dy_expander({ratio}, {threshold}, 1, 100)", STEPS[:10]),
+            [steady(level, 400) for level in STEPS[:10]],
+            judge=static(
+                lambda level, ratio=ratio, threshold=threshold: min(0.0, level - threshold) * (ratio - 1),
+                STEPS[:10],
+                0.1,
+            ),
+        )
+        for ratio, threshold in ((2, -12), (1, -20), (2, -40))
+    ),
+    Row(
+        "dy_expansion",
+        "the gain of the ideal follower and curve, within 0.15 dB above -60 dB",
+        "dy_expansion(3, -20, 48, 2000)",
+        [SOFT_TO_LOUD],
+        judge=every(gained(expansion(SOFT_TO_LOUD, 3, -20, 48, 2000), 0.15, 0.001), within(0, ONE)),
+    ),
+    Row(
+        "dy_expander",
+        "from the threshold on nothing changes, and far below it is silent",
+        "dy_expander(10, -30, 1, 100)",
+        [steady(20000, 300) + steady(60, 900)],
+        judge=lambda outputs: None if outputs[0][:300] == steady(20000, 300) and not any(outputs[0][1100:]) else "it is changed, or is not silent",
+    ),
 ]
 
 GATES = [
@@ -168,21 +272,87 @@ def delayed(signal, frames):
 
 
 LIMITERS = [
-    *(Row("dy_limiter", f"nothing is above {ceiling} with a look-ahead of {2**k}", f"dy_limiter({ceiling}, {k}, {release})", [sound], judge=never_above(ceiling))
-      for ceiling, k, release in ((20000, 6, 1000), (100, 1, 1), (32767, 10, 50), (1, 4, 100)) for sound in (LOUD, square(70, 2000), [0] * 50 + [2**31 - 1, -(2**31) + 1] * 50 + [0] * 200)),
-    Row("dy_limiter", "what is below the ceiling is itself, later", "dy_limiter(30000, 6, 1000)", [SOFT], expected=[delayed(SOFT, 63)]),
-    Row("dy_limiter", "comes back to the sound itself after a peak", "dy_limiter(16000, 6, 200)", [PEAKS],
-        judge=lambda outputs: None if outputs[0][6500:] == delayed(PEAKS, 63)[6500:] and outputs[0][:437] == delayed(PEAKS, 63)[:437] else "it differs from the sound"),
-    Row("dy_limiting", "the mean of what the loudest in sight asks for, within 0.05 dB", "dy_limiting(9000, 7, 700)", [PEAKS],
-        judge=gained_from(128, limiting(PEAKS, 9000, 128, 700), 0.05)),
-    Row("dy_limiter", "a loud sine comes up to the ceiling, within 0.1 dB", "dy_limiter(20000, 6, 100000)", [sine(1000, 4800)],
-        judge=lambda outputs: None if abs(decibels(max(outputs[0][2000:]) / 20000)) < 0.1 else f"{max(outputs[0][2000:])} is its greatest"),
-    Row("dy_limiter_stereo", "one gain, of the louder, and nothing above the ceiling", "dy_limiter_stereo(9000, 7, 700)", [PEAKS, OTHER[:9000]],
-        judge=every(never_above(9000), lambda outputs: near([[sample * gain for sample, gain in zip(delayed(sound, 127), limiting([max(abs(a), abs(b)) for a, b in zip(PEAKS, OTHER)], 9000, 128, 700))]
-                                                             for sound in (PEAKS, OTHER[:9000])], 40, 128)(outputs))),
-    Row("dy_greatest", "the greatest of the last 2^k", "_ <: dy_greatest(1), dy_greatest(5), dy_greatest(8)", [SHORT],
-        expected=[[max(([0] if frame < 2**k - 1 else []) + SHORT[max(0, frame - 2**k + 1) : frame + 1]) for frame in range(1500)] for k in (1, 5, 8)]),
-    Row("dy_clip", "the ceiling where it is beyond it", "dy_clip(9000)", [SHORT + [2**31 - 1, -(2**31)]], expected=[[max(-9000, min(9000, x)) for x in SHORT] + [9000, -9000]]),
+    *(
+        Row(
+            "dy_limiter",
+            f"nothing is above {ceiling} with a look-ahead of {2**k}",
+            f"dy_limiter({ceiling}, {k}, {release})",
+            [sound],
+            judge=never_above(ceiling),
+        )
+        for ceiling, k, release in ((20000, 6, 1000), (100, 1, 1), (32767, 10, 50), (1, 4, 100))
+        for sound in (LOUD, square(70, 2000), [0] * 50 + [2**31 - 1, -(2**31) + 1] * 50 + [0] * 200)
+    ),
+    Row(
+        "dy_limiter",
+        "what is below the ceiling is itself, later",
+        "dy_limiter(30000, 6, 1000)",
+        [SOFT],
+        expected=[delayed(SOFT, 63)],
+    ),
+    Row(
+        "dy_limiter",
+        "comes back to the sound itself after a peak",
+        "dy_limiter(16000, 6, 200)",
+        [PEAKS],
+        judge=lambda outputs: None if outputs[0][6500:] == delayed(PEAKS, 63)[6500:] and outputs[0][:437] == delayed(PEAKS, 63)[:437] else "it differs from the sound",
+    ),
+    Row(
+        "dy_limiting",
+        "the mean of what the loudest in sight asks for, within 0.05 dB",
+        "dy_limiting(9000, 7, 700)",
+        [PEAKS],
+        judge=gained_from(128, limiting(PEAKS, 9000, 128, 700), 0.05),
+    ),
+    Row(
+        "dy_limiter",
+        "a loud sine comes up to the ceiling, within 0.1 dB",
+        "dy_limiter(20000, 6, 100000)",
+        [sine(1000, 4800)],
+        judge=lambda outputs: None if abs(
+            decibels(max(outputs[0][2000:]) / 20000)
+        ) < 0.1 else f"{max(outputs[0][2000:])} is its greatest",
+    ),
+    Row(
+        "dy_limiter_stereo",
+        "one gain, of the louder, and nothing above the ceiling",
+        "dy_limiter_stereo(9000, 7, 700)",
+        [PEAKS, OTHER[:9000]],
+        judge=every(
+            never_above(9000),
+            lambda outputs: near(
+                [
+                    [
+                        sample * gain
+                        for sample, gain in zip(
+                            delayed(sound, 127),
+                            limiting([max(abs(a), abs(b)) for a, b in zip(PEAKS, OTHER)], 9000, 128, 700),
+                        )
+                    ]
+                    for sound in (PEAKS, OTHER[:9000])
+                ],
+                40,
+                128,
+            )(outputs),
+        ),
+    ),
+    Row(
+        "dy_greatest",
+        "the greatest of the last 2^k",
+        "_ <: dy_greatest(1), dy_greatest(5), dy_greatest(8)",
+        [SHORT],
+        expected=[
+            [max(([0] if frame < 2**k - 1 else []) + SHORT[max(0, frame - 2**k + 1) : frame + 1]) for frame in range(1500)]
+            for k in (1, 5, 8)
+        ],
+    ),
+    Row(
+        "dy_clip",
+        "the ceiling where it is beyond it",
+        "dy_clip(9000)",
+        [SHORT + [2**31 - 1, -(2**31)]],
+        expected=[[max(-9000, min(9000, x)) for x in SHORT] + [9000, -9000]],
+    ),
     Row("dy_clip", "a ceiling of none", "dy_clip(0)", [[5, -5, 0]], expected=[[0, 0, 0]]),
 ]
 
