@@ -109,6 +109,20 @@ def curves(label, program, inputs, greatest=32768):
     return Panel(label, 84, draw)
 
 
+def levels(label, programs, bottom=-60):
+    """How loud each level comes out, from so many dB to 0, both ways."""
+
+    def draw(player, picture, y, height):
+        for decibels in range(bottom, 1, 12):
+            level(picture, y, height, 1 - decibels / bottom)
+        steps = [round(32767 * 10 ** (bottom * (1 - x / (WIDTH - 1)) / 20)) for x in range(WIDTH)]
+        for program, colour in zip(programs, COLOURS):
+            loud = [20 * math.log10(max(abs(sample), 1) / 32767) for sample in play(player, program, [steps])[0]]
+            curve(picture, y, height, [1 - one / bottom for one in loud], colour)
+
+    return Panel(label, 84, draw)
+
+
 def spectrogram(label, program, frames):
     """Up to a quarter of the rate, the darker, the louder."""
 
@@ -153,6 +167,12 @@ def spectrum(label, program):
 
 
 RAMP = [round(32768 * x / (WIDTH - 1)) for x in range(WIDTH)]
+BOTH_WAYS = [round(65535 * x / (WIDTH - 1)) - 32768 for x in range(WIDTH)]
+GATE = [int(20 <= x < 190 or 300 <= x < 310) for x in range(WIDTH)]
+STEPS = [0 if x < 30 else 30000 if x < 220 else 8000 for x in range(WIDTH)]
+# A loud beginning and a soft end, three times.
+BURSTS = [round(sample * 0.98 * (1 if frame % 8000 < 1500 else 0.08)) for frame, sample in enumerate(rows.sine(600, 24000))]
+BURST = [sample * (frame < 900) * 2 // 3 for frame, sample in enumerate(rows.sine(400, 24000))]
 SHAKEN = [2000 if time % 9600 < 4800 else 9000 for time in range(24000)]
 BIQUADS = [("lowpass", 100, 0.7071, RATE), ("peak", 1000, 2, RATE, 9), ("highshelf", 5000, 0.7071, RATE, -12)]
 PICTURES = {
@@ -198,6 +218,49 @@ PICTURES = {
         curves("ga_balance", "\\(p).(32767, 32767 : ga_balance(p))", [RAMP]),
         curves("ga_db 60 to 0", "ga_db", [[x * 60 // (WIDTH - 1) - 60 for x in range(WIDTH)]]),
         curves("ga_db_tenths", "ga_db_tenths", [[x * 600 // (WIDTH - 1) - 600 for x in range(WIDTH)]]),
+    ],
+    "envelopes": [
+        curves("gate", "_ * 32000", [GATE]),
+        curves("en_adsr en_adsre", "_ <: en_adsr(40, 60, 16000, 90), en_adsre(40, 60, 16000, 90)", [GATE]),
+        curves("en_asr en_smooth", "_ <: en_asr(60, 28000, 100), en_smooth(20)", [GATE]),
+        curves("en_ar en_fall en_decay", "_ <: en_ar(30, 100), en_fall(100), en_decay(100)", [GATE]),
+        curves("en_follower", "_ <: abs, en_follower(8, 60)", [[round(sample * (x % 220 < 110)) for x, sample in enumerate(rows.sine(1500, WIDTH))]]),
+    ],
+    "control": [
+        curves("co_smooth co_line", "_ <: _, co_smooth(25), co_line(60)", [STEPS]),
+        curves("co_slew co_lag", "_ <: _, co_slew(400, 150), co_lag(10, 60)", [STEPS]),
+        curves("co_hold of a sine", "_ <: _, co_hold(co_pulse(20))", [[16384 + sample // 2 for sample in rows.sine(240, WIDTH)]]),
+        waves("co_euclid 3 of 8", "co_pulse(480) <: _ * co_euclid(3, 8, co_count(8)) * 30000", 15360),
+        waves("co_euclid 5 of 16", "co_pulse(480) <: _ * co_euclid(5, 16, co_count(16)) * 30000", 15360),
+        waves("co_divide by 3", "co_pulse(480) : co_divide(3) : *(30000)", 15360),
+        waves("co_steps", "co_pulse(480) : co_count(8) : co_steps(waveform{9000, -20000, 27000, 0, 14000}) : _", 15360),
+    ],
+    "dynamics": [
+        levels("dy_compressor", ["_", "dy_compressor(2, -30, 1, 1)", "dy_compressor(8, -30, 1, 1)"]),
+        levels("dy_expander dy_gate", ["_", "dy_expander(3, -30, 1, 1)", "dy_gate(-40, 1, 0, 1)"]),
+        waves("a sound", "_", len(BURSTS), [BURSTS]),
+        waves("dy_compressor", "dy_compressor(3, -24, 24, 1200)", len(BURSTS), [BURSTS]),
+        waves("dy_gate", "dy_gate(-20, 48, 480, 1200)", len(BURSTS), [BURSTS]),
+        waves("dy_limiter", "dy_limiter(12000, 7, 1200)", len(BURSTS), [BURSTS]),
+        waves("dy_clip", "dy_clip(12000)", len(BURSTS), [BURSTS]),
+    ],
+    "effects": [
+        responses("ef_flanger", ["ef_flanger(100, 20 * 4096, 32768, 0)", "ef_flanger(100, 20 * 4096, 32768, -20000)"]),
+        responses("ef_phaser", [f"ef_phaser(4, os_step(1000, 48000), 32768, {f})" for f in (0, 20000)]),
+        curves("ef_cubic", "_ <: " + ", ".join(f"(ef_cubic({drive}) : +(32768) : /(2))" for drive in (256, 1024)), [BOTH_WAYS]),
+        curves("ef_crush ef_shape", "_ <: (ef_crush(4) : +(32768) : /(2)), (ef_shape(waveform{-9000, -27000, 0, 27000, 9000}) : +(32768) : /(2))", [BOTH_WAYS]),
+        waves("ef_echo", "ef_echo(2000, 2000, 22000)", 24000, [BURST]),
+        waves("ef_tremolo", "os_osc(os_step(400, 48000)) : ef_tremolo(28000, os_step(8, 48000))", 24000),
+        waves("ef_string", "en_fall(300, 1 - 1') : en_apply(_, no_noise) : ef_string(500, ef_period(os_step(150, 48000)), 32400)", 24000),
+        spectrogram("ef_vibrato", "os_saw(os_step(1500, 48000)) : ef_vibrato(200, os_step(4, 48000))", 48000),
+    ],
+    "reverberation": [
+        waves("re_comb", "*(4) : re_comb(1116, 27525, 6554) : /(4)", 24000, [rows.impulse(24000, 30000)]),
+        waves("re_allpass", "re_allpass(556, -16384)", 24000, [rows.impulse(24000, 30000)]),
+        waves("re_schroeder", "re_schroeder : *(3)", 24000, [rows.impulse(24000, 30000)]),
+        waves("re_freeverb left", "_, 0 : re_freeverb(27525, 6554) : *(25), !", 24000, [rows.impulse(24000, 30000)]),
+        waves("re_freeverb right", "_, 0 : re_freeverb(27525, 6554) : !, *(25)", 24000, [rows.impulse(24000, 30000)]),
+        spectrogram("re_freeverb", "(1 - 1') * 60000 : re_freeverb_mono(27525, 16384, 0) : *(16)", 48000),
     ],
 }
 

@@ -1,8 +1,10 @@
 #!/usr/bin/env python3
-"""Writes the sounds of these examples, with samples that an interpreter apart from faustvec computes: `NAME.wav` for each line of
-`list.txt`, whose program `bin/link` makes of `NAME.dsp`, and `stems.wav`, three of the sounds as one file of three channels.
-Takes half an hour on four processors, since the interpreter is slow; `make_waves.py NAME..` writes these alone. With `--check`
-first, it compares instead of writing, and says what differs."""
+"""Writes the sounds of these examples, with samples that Python computes apart from faustvec: `NAME.wav` for each line of `list.txt`,
+whose program `bin/link` makes of `NAME.dsp`, and `stems.wav`, three of the sounds as one file of three channels. The language is that
+of tests/interpreter.py; what it evaluates is played by straight_line.py, and the first frames by itself too, which have to be the same.
+
+    make_waves.py [NAME..]            writes all of them, or these
+    make_waves.py --check [NAME..]    compares instead, and says what differs"""
 import array
 import concurrent.futures
 import os
@@ -15,8 +17,11 @@ TOP = os.path.join(FOLDER, "../..")
 sys.path.insert(0, os.path.join(TOP, "tests"))
 
 import interpreter
+import straight_line
 
 RATE = 44100
+# So many frames the interpreter plays too.
+CHECKED = 300
 # The channels of `stems.wav`: the sound of one example each, its channels added and halved.
 STEMS = ["karplus", "sequencer", "drum_machine"]
 STEM_FRAMES = 66150
@@ -61,7 +66,11 @@ def example(is_checked, name, source, *words):
     linked = subprocess.run([os.path.join(TOP, "bin/link"), path(name + ".dsp")], stdout=subprocess.PIPE, check=True).stdout
     frames = [[]] * int(options["--frames"]) if source == "-" else read(source)
     changes = changes_of(options["--controls"]) if "--controls" in options else []
-    return written(name + ".wav", interpreter.Program(linked.decode("latin-1")).play(frames, changes), is_checked)
+    program = interpreter.Program(linked.decode("latin-1"))
+    played = straight_line.play(program, frames, changes)
+    if program.play(frames[:CHECKED], changes) != played[:CHECKED]:
+        sys.exit(f"make_waves.py: {name}: straight_line.py and tests/interpreter.py differ")
+    return written(name + ".wav", played, is_checked)
 
 
 def main(words):

@@ -371,7 +371,7 @@ SMOOTHERS = [
             f"the ideal smoother of n = {n}, jumps between full scales with it",
             f"co_smooth({n})",
             [JUMPS],
-            judge=near([one_pole(JUMPS, n, n)], 1.01),
+            judge=near([one_pole(JUMPS, n, n)], 0.65),
         )
         for n in (1, 2, 20, 100, 2000)
     ),
@@ -392,6 +392,7 @@ SMOOTHERS = [
         [JUMPS, JUMPS],
         judge=near([one_pole(JUMPS, 10, 300), one_pole(JUMPS, 300, 10)], 1.01),
     ),
+    Row("co_lag", "times below 1 are as 1", "co_lag(0, -9)", [JUMPS], expected=[JUMPS]),
     Row("co_lag", "reaches a constant exactly from both sides", "co_lag(10, 300)", [step(9000, -777)], judge=settled(-777, 8000)),
     Row(
         "co_slew",
@@ -413,7 +414,7 @@ SMOOTHERS = [
             f"straight lines of {n} frames, full scale with them",
             f"co_line({n})",
             [JUMPS],
-            judge=near([lined(JUMPS, n)], 1.01),
+            judge=near([lined(JUMPS, n)], 0.6),
         )
         for n in (1, 2, 100, 499, 700)
     ),

@@ -441,7 +441,31 @@ def plucked(signal, n, g):
     return found
 
 
+def shifted(signal, w, fade, ratio):
+    """Two taps that run through the signal at another speed, w samples apart; each is loud while the other one jumps."""
+    late, found = 0.0, []
+    for time in range(len(signal)):
+        share = min(1.0, late / fade)
+        found.append(share * read(signal, time - late) + (1 - share) * read(signal, time - late - w))
+        late = (late + 1 - ratio / ONE) % w
+    return found
+
+
+def strung(signal, period, g):
+    """A string that is plucked at a fifth: what comes in and its reflection, and the mean of two samples a period ago, by a straight line."""
+    found = []
+    pluck = int(period / 5)
+    for time, sample in enumerate(signal):
+        excited = (sample - (signal[time - pluck] if time >= pluck else 0)) / 2
+        mean = lambda at: ((found[at] if at >= 0 else 0.0) + (found[at - 1] if at >= 1 else 0.0)) / 2
+        place = time - (period - 0.5)
+        whole = math.floor(place)
+        found.append(excited + g / ONE * (mean(whole) + (mean(whole + 1) - mean(whole)) * (place - whole)))
+    return found
+
+
 BURST = noise(100, FULL, 12)
+PLUCK = BURST + [0] * 2900
 NOTES = (28, 40, 45, 57, 64, 69, 76, 88)
 
 
@@ -481,6 +505,13 @@ STRINGS = [
             judge=lambda outputs, key=key: pitched(note(key))([outputs[0][4000:]]),
         )
         for key in NOTES
+    ),
+    Row(
+        "ef_string",
+        "the samples of the ideal string",
+        "ef_string(500, 4096 * 211 + 1000, 32000)",
+        [PLUCK],
+        judge=near([strung(PLUCK, 211 + 1000 / 4096, 32000)], 4),
     ),
     Row(
         "ef_string",
@@ -528,6 +559,16 @@ STRINGS = [
     transposed(7),
     transposed(-5),
     transposed(12),
+    *(
+        Row(
+            "ef_transpose",
+            f"two taps that take turns, at a ratio of {ratio}",
+            f"ef_transpose({w}, {fade}, {ratio})",
+            [TONE[:5000]],
+            judge=near([shifted(TONE[:5000], w, fade, ratio)], 12),
+        )
+        for w, fade, ratio in ((500, 200, 49096), (300, 300, 20000), (40, 1, 131072))
+    ),
     Row(
         "ef_transpose",
         "a ratio of 1 is the sound itself, later",
