@@ -12,6 +12,11 @@ OTHER = sine(333, 12000)
 SHORT, SOFT = noise(1500), noise(2000, 30000, 2)
 
 
+def holds(condition, words):
+    """A judge that says these words where the condition on the outputs does not hold."""
+    return lambda outputs: None if condition(outputs) else words
+
+
 def gained(gain, tolerance, floor=0.0):
     """The output is the gain that this list says, in Q15, within so many dB and one step, at each frame; gains below the floor
     are not compared, but must be low too."""
@@ -65,7 +70,7 @@ def gating(signal, threshold, attack, hold, release):
 
 
 def limiting(signal, ceiling, ahead, release):
-    """The mean over the look-ahead of a gain that comes back slowly from what the loudest sample of the last look-ahead asks for."""
+    """The mean over the look-ahead of a gain that comes back slowly from what the loudest sample of the look-ahead asks for."""
     below, wanted = 0.0, [0.0] * ahead
     found = []
     for frame in range(len(signal)):
@@ -199,6 +204,8 @@ COMPRESSORS = [
         [[x // 2 for x in SOFT]],
         expected=[[x // 2 for x in SOFT]],
     ),
+    Row("dy_compressor", "1:1 changes nothing", "dy_compressor(1, -30, 1, 100)", [SHORT], expected=[SHORT]),
+    Row("dy_expander", "1:1 changes nothing", "dy_expander(1, -1, 1, 100)", [SHORT], expected=[SHORT]),
     Row(
         "dy_compressor_stereo",
         "one gain, of the louder",
@@ -244,16 +251,42 @@ COMPRESSORS = [
         "from the threshold on nothing changes, and far below it is silent",
         "dy_expander(10, -30, 1, 100)",
         [steady(20000, 300) + steady(60, 900)],
-        judge=lambda outputs: None if outputs[0][:300] == steady(20000, 300) and not any(outputs[0][1100:]) else "it is changed, or is not silent",
+        judge=holds(lambda outputs: outputs[0][:300] == steady(20000, 300) and not any(outputs[0][1100:]), "it is changed, or is not silent"),
     ),
 ]
 
 GATES = [
-    Row("dy_gating", "lines of 48 and 2000 samples, and a hold of 100", "dy_gating(-12, 48, 100, 2000)", [BURSTS],
-        judge=every(near([[ONE * gain for gain in gating(BURSTS, -12, 48, 100, 2000)]], 1.01), within(0, ONE))),
-    Row("dy_gate", "open it is the sound itself, closed it is 0", "dy_gate(-12, 48, 100, 500)", [BURSTS],
-        judge=lambda outputs: next((f"frame {frame}: {got}" for frame, (got, x) in enumerate(zip(outputs[0], BURSTS))
-                                    if frame % 3000 > 1600 and got != x or 700 < frame % 3000 < 1500 and got), None)),
+    Row(
+        "dy_gating",
+        "lines of 48 and 2000 samples, and a hold of 100",
+        "dy_gating(-12, 48, 100, 2000)",
+        [BURSTS],
+        judge=every(near([[ONE * gain for gain in gating(BURSTS, -12, 48, 100, 2000)]], 1.01), within(0, ONE)),
+    ),
+    Row(
+        "dy_gating",
+        "a sample at the threshold opens it, and a lower one does not",
+        "dy_gating(-12, 1, 0, 1)",
+        [[8230, 8231, -8230, -8231, 0]],
+        expected=[[0, ONE, 0, ONE, 0]],
+    ),
+    Row(
+        "dy_gate",
+        "open it is the sound itself, closed it is 0",
+        "dy_gate(-12, 48, 100, 500)",
+        [BURSTS],
+        judge=lambda outputs: next(
+            (
+                f"frame {frame}: {got}"
+                for frame, (got, x) in enumerate(zip(outputs[0], BURSTS))
+                if frame % 3000 > 1600
+                and got != x
+                or 700 < frame % 3000 < 1500
+                and got
+            ),
+            None,
+        ),
+    ),
     Row("dy_gate", "the loudest square passes as it is", "dy_gate(-1, 1, 0, 1)", [square(48, 500)], expected=[square(48, 500)]),
     Row("dy_gate", "what never reaches the threshold is 0", "dy_gate(-40, 1, 100, 100)", [noise(2000, 320)], expected=[[0] * 2000]),
 ]
@@ -292,17 +325,27 @@ LIMITERS = [
     ),
     Row(
         "dy_limiter",
+        "after silence a soft sound is itself",
+        "dy_limiter(30000, 6, 1000)",
+        [[0] * 500 + SOFT],
+        expected=[delayed([0] * 500 + SOFT, 63)],
+    ),
+    Row(
+        "dy_limiter",
         "comes back to the sound itself after a peak",
         "dy_limiter(16000, 6, 200)",
         [PEAKS],
-        judge=lambda outputs: None if outputs[0][6500:] == delayed(PEAKS, 63)[6500:] and outputs[0][:437] == delayed(PEAKS, 63)[:437] else "it differs from the sound",
+        judge=holds(
+            lambda outputs: outputs[0][6500:] == delayed(PEAKS, 63)[6500:] and outputs[0][:437] == delayed(PEAKS, 63)[:437],
+            "it differs from the sound",
+        ),
     ),
     Row(
         "dy_limiting",
         "the mean of what the loudest in sight asks for, within 0.05 dB",
         "dy_limiting(9000, 7, 700)",
         [PEAKS],
-        judge=gained_from(128, limiting(PEAKS, 9000, 128, 700), 0.05),
+        judge=every(gained_from(128, limiting(PEAKS, 9000, 128, 700), 0.05), within(0, ONE)),
     ),
     Row(
         "dy_limiter",

@@ -29,6 +29,11 @@ ONE = 32768
 TURN = 2**32
 
 
+def holds(condition, words):
+    """A judge that says these words where the condition on the outputs does not hold."""
+    return lambda outputs: None if condition(outputs) else words
+
+
 def swing(s, time, offset=0.0):
     """From 0 to 1 and back in each turn."""
     return (1 - math.cos(2 * math.pi * (s * time / TURN + offset))) / 2
@@ -104,7 +109,7 @@ MOVES = [
         "a depth of 0 is the sound, full depth is silent in the middle",
         f"_ <: ef_tremolo(0, {FAST}), ef_tremolo(32768, {FAST})",
         [SQUARE[:1200]],
-        judge=lambda outputs: None if outputs[0] == SQUARE[:1200] and outputs[1][0] == SQUARE[0] and abs(outputs[1][600]) < 40 else "it is not",
+        judge=holds(lambda outputs: outputs[0] == SQUARE[:1200] and outputs[1][0] == SQUARE[0] and abs(outputs[1][600]) < 40, "it is not"),
     ),
     Row(
         "ef_vibrato",
@@ -452,7 +457,8 @@ def shifted(signal, w, fade, ratio):
 
 
 def strung(signal, period, g):
-    """A string that is plucked at a fifth: what comes in and its reflection, and the mean of two samples a period ago, by a straight line."""
+    """A string that is plucked at a fifth: what comes in and its reflection, and the mean of two samples of a period ago, which is read
+    by a straight line."""
     found = []
     pluck = int(period / 5)
     for time, sample in enumerate(signal):

@@ -150,6 +150,13 @@ SHAPES = [
         ),
     ),
     Row(
+        "en_fall",
+        "each step exactly where they come out even",
+        "en_fall(1024)",
+        [once(1100)],
+        expected=[[max(0, ONE - 32 * frame) for frame in range(1100)]],
+    ),
+    Row(
         "en_decay",
         "60 dB lower after n frames",
         "en_decay(4800)",
