@@ -10,6 +10,7 @@ from rows import (
     Tones,
     amplitude,
     cents,
+    decibels,
     divided,
     every,
     impulse,
@@ -109,7 +110,10 @@ MOVES = [
         "a depth of 0 is the sound, full depth is silent in the middle",
         f"_ <: ef_tremolo(0, {FAST}), ef_tremolo(32768, {FAST})",
         [SQUARE[:1200]],
-        judge=holds(lambda outputs: outputs[0] == SQUARE[:1200] and outputs[1][0] == SQUARE[0] and abs(outputs[1][600]) < 40, "it is not"),
+        judge=holds(
+            lambda outputs: outputs[0] == SQUARE[:1200] and outputs[1][0] == SQUARE[0] and abs(outputs[1][600]) < 40,
+            "it is not",
+        ),
     ),
     Row(
         "ef_vibrato",
@@ -266,6 +270,13 @@ FLANGERS = [
     ),
     Row(
         "ef_flanger",
+        "without feedback full scale stays within 16 bits",
+        "_ <: ef_flanger(100, 200000, 32768, 0), ef_flanger(100, 4096, -32768, 0)",
+        [SQUARE],
+        judge=within(-32768, 32767),
+    ),
+    Row(
+        "ef_flanger",
         "a steady full scale comes to what it has to",
         "ef_flanger(100, 40960, 32768, -29491)",
         [step(9000, 32767)],
@@ -347,6 +358,46 @@ FLANGERS = [
             judge=silent(9000),
         )
         for f, s in ((29000, stepped(900)), (-29000, f"ef_sweep_step({stepped(300)}, {stepped(5000)}, {SLOW})"))
+    ),
+]
+
+
+def bandpass_gain(f, q):
+    """The gain of the ideal bandpass, by the bilinear transform."""
+    tangent = math.tan(math.pi * f / RATE)
+
+    def gain(frequency):
+        ratio = math.tan(math.pi * frequency / RATE) / tangent
+        return 1 / (1 + 1j * q * (ratio - 1 / ratio))
+
+    return gain
+
+
+def wah(level, frequency, low, high, q):
+    """A square wave, whose loudness is constant, comes out as the bandpass at the frequency of its loudness has it."""
+    sound = [level if time * 2 * frequency // RATE % 2 == 0 else -level for time in range(24000)]
+    ideal = bandpass_gain(low + (high - low) * level / ONE, q / 256)
+
+    def judge(outputs):
+        for harmonic in (1, 3, 5):
+            given, got = (amplitude(channel[14400:], harmonic * frequency) for channel in (sound, outputs[0]))
+            right = abs(ideal(harmonic * frequency))
+            if abs(decibels(got / given) - decibels(right)) > 0.3:
+                return f"{decibels(got / given):.2f} dB at {harmonic * frequency} Hz, where {decibels(right):.2f} dB is ideal"
+        return None
+
+    what = f"at a level of {level} the ideal bandpass, within 0.3 dB"
+    return Row("ef_wah", what, f"ef_wah({low}, {high}, {q}, 48000)", [sound], judge=judge)
+
+
+WAHS = [
+    *(wah(level, 400, 300, 2500, 1280) for level in (32767, 16000, 4000)),
+    Row(
+        "ef_wah",
+        "full scale does not wrap, and the tail comes to 0",
+        "ef_wah(300, 2500, 4096, 48000)",
+        [SQUARE + [0] * 20000],
+        judge=every(within(-32768, 32767), silent(20000)),
     ),
 ]
 
@@ -493,6 +544,13 @@ STRINGS = [
         "_ <: ef_karplus(2, 30000), ef_karplus(50, 32768)",
         [BURST[:40] + [0] * 960],
         expected=[plucked(BURST[:40] + [0] * 960, 2, 30000), plucked(BURST[:40] + [0] * 960, 50, 32768)],
+    ),
+    Row(
+        "ef_karplus",
+        "what is without DC stays without",
+        "ef_karplus(60, 32768)",
+        [[3000, -1000, -2000] * 20 + [0] * 5940],
+        judge=without_dc(1.0, 60),
     ),
     Row("ef_karplus", "the tail comes to 0 and stays", "ef_karplus(60, 32000)", [BURST + [0] * 29900], judge=silent(29000)),
     Row(
@@ -779,4 +837,4 @@ REVERBS = [
     ),
 ]
 
-ROWS = MOVES + ECHOES + FLANGERS + SHAPES + STRINGS + REVERBS
+ROWS = MOVES + ECHOES + FLANGERS + WAHS + SHAPES + STRINGS + REVERBS
