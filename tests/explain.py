@@ -472,7 +472,7 @@ class RackReading(Rack):
         lines = []
         for job, reading in enumerate(self.readings):
             if reading.refused or with_accepted:
-                lines += [f"job {job}: {reading.line()}", *reading.told(f"{job}/")]
+                lines += [f"job {job}: {shown(reading.line())}", *reading.told(f"{job}/")]
         if self.refused and self.refused.number != 46:
             lines.append(self.meaning())
         return lines
@@ -497,7 +497,12 @@ def read(file, as_rack=False, patience=None):
 def explanation(file, as_rack=False):
     """The lines for a file, whose characters are bytes, and whether it is accepted."""
     reading = read(file, as_rack)
-    return [reading.line(), *reading.told()], not reading.refused
+    return lines_of(reading), not reading.refused
+
+
+def lines_of(reading):
+    """All lines for what was read."""
+    return [shown(reading.line()), *reading.told()]
 
 
 def after(file, line, as_rack=False):

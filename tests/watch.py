@@ -20,7 +20,10 @@ LOOP_WORDS = {word: (0, 1) for word in "+ - * & | xor prefix".split()}
 LOOP_WORDS.update({"<<": (0,), ">>": (0,), "@": (0,), "mem": (0,), "_": (0,), "int": (0,), "!": (0,)})
 LOOP_WORDS.update({"attach": (0, 1), "select2": (1, 2), "select3": (1, 2, 3)})
 MODULAR = "+ - * << & | xor".split()
+# For so many frames at least a division gives 0 to the end before it is told.
 LEAST_STUCK = 64
+PLAIN_SAMPLES = bytes.fromhex("0100000000001000800000aa00389b71")
+QUIET = "  no number wrapped, was divided by 0 or came to 0 throughout, and no output was clipped"
 
 
 class Unusable(Exception):
@@ -66,7 +69,8 @@ class Sound:
             body = data[at + 8 : at + 8 + size]
             if name == b"fmt " and len(body) >= 16:
                 tag, channels, _, _, _, bits = struct.unpack_from("<HHIIHH", body)
-                form = self.checked(channels, bits if tag in (1, 65534) else None)
+                is_plain = tag == 1 or tag == 65534 and body[24:40] == PLAIN_SAMPLES
+                form = self.checked(channels, bits if is_plain else None)
             if name == b"data" and form:
                 return (*form, body)
             at += 8 + size + size % 2
@@ -206,20 +210,21 @@ def exact_of(number):
 
 
 class Event:
-    """What happened at an operation of the text, by one of its diagrams: at which frames, and with which operands at the first."""
+    """What happened at one place of the text: at which frames, and at the first of them by which diagram on which operands."""
 
-    def __init__(self, diagram):
-        self.diagram, self.frames, self.first = diagram, set(), None
+    def __init__(self):
+        self.frames, self.first, self.diagram = set(), None, None
 
-    def add(self, time, operands):
+    def add(self, diagram, time, operands):
         self.frames.add(time)
         if self.first is None or time < self.first[0]:
-            self.first = time, [int(one) for one in operands]
+            self.first, self.diagram = (time, [int(one) for one in operands]), diagram
 
 
 class Quotient:
-    """What a division of the text gave so far, by one of its diagrams: whether it ever was not 0; at how many frames it was though its dividend was not, and with
-    which operands first; whether the dividend rises or falls by the same each frame since; and since when it stays as it is."""
+    """What a division gave so far: whether 0 alone; at how many frames 0 though the dividend is not, and of which operands at the
+    first of them; whether the dividend rises or falls by the same at each frame since then, as that of a counter does; and
+    since which frame the dividend is the same and the quotient 0."""
 
     def __init__(self, diagram):
         self.diagram, self.is_zero, self.count, self.first = diagram, True, 0, None
@@ -252,7 +257,8 @@ class Quotient:
 
 
 class Watch(interpreter.Maker):
-    """Makes runners that note what happens to their numbers, by the diagram."""
+    """Makes runners that note what happens to their numbers, under the places of the text: which wrapped, which were divided by
+    0, and which loops wrapped as counters or generators; and what divisions gave, one by one."""
 
     def __init__(self):
         self.loops, self.time = None, 0
@@ -268,16 +274,16 @@ class Watch(interpreter.Maker):
         for self.time, frame in enumerate(frames):
             yield frame
 
-    def event(self, events, diagram):
-        """What happened so far where this diagram stands in the text."""
-        return events.setdefault(diagram.path[0].mark, Event(diagram))
+    def note(self, events, diagram, time, operands):
+        """Notes what happened by a diagram, under its place in the text."""
+        events.setdefault(diagram.path[0].mark, Event()).add(diagram, time, operands)
 
     def tell(self, numbers):
         """Notes that these numbers wrapped where something else comes of it."""
         for number in numbers:
             if type(number) is Wrapped and not number.origin.is_told:
                 number.origin.is_told = True
-                self.event(self.wraps, number.origin.diagram).add(number.origin.time, number.origin.operands)
+                self.note(self.wraps, number.origin.diagram, number.origin.time, number.origin.operands)
 
     def kept(self, diagram, exact, operands):
         """A number as 32 bits keep it, with what it would be where that is another one."""
@@ -348,7 +354,7 @@ class Watch(interpreter.Maker):
         def run(frame, known):
             given, (x, y) = divide(frame, known), frame
             if y == 0:
-                self.event(self.zeros, diagram).add(self.time, frame)
+                self.note(self.zeros, diagram, self.time, frame)
             elif word == "/":
                 quotient.hear(self.time, int(x), int(y), given[0])
             return given
@@ -384,7 +390,7 @@ class Watch(interpreter.Maker):
             given = left(right(fed, known) + frame, known)
             wrapped = [number for number in given[:width] if type(number) is Wrapped]
             if wrapped and is_generator:
-                self.event(self.left_out, diagram).add(self.time, wrapped)
+                self.note(self.left_out, diagram, self.time, wrapped)
                 given = [*map(int, given[:width]), *given[width:]]
             elif wrapped:
                 self.tell(wrapped)
@@ -411,7 +417,7 @@ def told(reading, diagram, happened, first, unit):
     return [line, *reading.source.excerpt(*place), *("  " + line for line in chain(reading, diagram.path))]
 
 
-def counted(count, unit):
+def amount(count, unit):
     return f"{count} {unit}" + ("s" if count != 1 else "")
 
 
@@ -428,10 +434,10 @@ def arithmetic(reading, watch, frames, unit="frame"):
     lines = []
     for what, events in (("wrapped", watch.wraps), ("divided by 0", watch.zeros)):
         for _, event in sorted(events.items()):
-            happened = f"{what} at {counted(len(event.frames), unit)}, first at"
+            happened = f"{what} at {amount(len(event.frames), unit)}, first at"
             lines += told(reading, event.diagram, happened, event.first, unit)
     for quotient in by_place(filter(Quotient.is_lost, watch.quotients)):
-        happened = f"gave 0 throughout, at {counted(quotient.count, unit)} of a dividend other than 0, first at"
+        happened = f"gave 0 throughout, at {amount(quotient.count, unit)} of a dividend other than 0, first at"
         lines += told(reading, quotient.diagram, happened, quotient.first, unit)
     for quotient in by_place(quotient for quotient in watch.quotients if quotient.is_stuck(frames)):
         lines += told(reading, quotient.diagram, "gives 0 to the end of a dividend other than 0, from", quotient.since, unit)
@@ -446,7 +452,7 @@ def clipped(answer, bits, first_output):
         beyond = [(time, frame[output]) for time, frame in enumerate(answer) if not least <= frame[output] <= greatest]
         if beyond:
             at = f"first at frame {beyond[0][0]}: {int(beyond[0][1])}"
-            lines.append(f"  output {first_output + output} was clipped to {bits} bits at {counted(len(beyond), 'frame')}, {at}")
+            lines.append(f"  output {first_output + output} was clipped to {bits} bits at {amount(len(beyond), 'frame')}, {at}")
     return lines
 
 
@@ -476,14 +482,14 @@ def played(reading, frames, changes, bits, first_output):
     for frame in answer:
         watch.tell(frame)
     lines = arithmetic(reading, watch, len(frames)) + clipped(answer, bits, first_output)
-    return (lines or ["  no number wrapped, was divided by 0 or came to 0 throughout, and no output was clipped"]) + left_out(reading, watch)
+    return (lines or [QUIET]) + left_out(reading, watch)
 
 
 def watched(reading, settings):
     """The lines for a program, or for the jobs of a file one after the other."""
     frames, changes = settings.input(reading.inputs), changes_of(settings.script, reading.controls)
     silent = ", on silence, as no INPUT is named" if settings.sound is None and reading.inputs else ""
-    lines = [f"in {settings.frames} frames{silent}:"]
+    lines = [f"in {amount(settings.frames, 'frame')}{silent}:"]
     if not isinstance(reading, RackReading):
         return computed(reading) + lines + played(reading, frames, changes, settings.bits, 0)
     first_input = first_output = 0
