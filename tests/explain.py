@@ -218,6 +218,9 @@ class Reading(Program):
         refused, path = self.refused, self.path()
         if refused.number in PLACED:
             return refused.fields[:2]
+        if refused.number == 14:
+            near = self.near("process")
+            return self.reader.place(len(self.reader.tokens.found) - 1 if near is None else near)
         if refused.number == 29:
             return self.place_of_process()
         if isinstance(refused.where, int):
@@ -235,9 +238,17 @@ class Reading(Program):
         at = self.reader.tokens.lines[line - 1] + column - 1
         return next((token for kind, token, begin in self.reader.tokens.found if begin == at), "")
 
+    def near(self, name):
+        """The token of the definition whose name is the most like this one, if one is."""
+        import difflib
+
+        defined = {self.spelled(token): token for token in reversed(self.reader.defined)}
+        like = difflib.get_close_matches(name, defined, 1, 0.75)
+        return defined[like[0]] if like else None
+
     def ending(self, line, column):
         """What is said more of a place behind all tokens."""
-        return ", where the text ends" if self.refused.number == 9 and not self.token_at(line, column) else ""
+        return ", where the text ends" if self.refused.number in (9, 14) and not self.token_at(line, column) else ""
 
     def place_of_process(self):
         """Where `process` is defined: the outermost definition of that name."""
@@ -255,12 +266,6 @@ class Reading(Program):
     def told(self, prefix=""):
         """The lines after its own; of a job, whose controls have labels that begin so."""
         return refusal(self) if self.refused else composition(self, prefix)
-
-    def names(self):
-        """All names of the text, each once, those that it defines first."""
-        found = [self.spelled(token) for token in self.reader.defined]
-        found += [token for kind, token, _ in self.reader.tokens.found if kind == "name"]
-        return list(dict.fromkeys(found))
 
 
 def chain(reading, path):
@@ -378,10 +383,9 @@ def unsupported(reading, word):
 
 
 def missing(reading, name="process"):
-    import difflib
-
-    near = difflib.get_close_matches(name, [other for other in reading.names() if other != name], 1, 0.75)
-    return MEANINGS[reading.refused.number].format(name) + (f" The text has {near[0]}: is that meant?" if near else "")
+    near = reading.near(name)
+    question = "" if near is None else f" Is {reading.spelled(near)} meant, which is defined at {reading.where(near)}?"
+    return MEANINGS[reading.refused.number].format(name) + question
 
 
 def arity(reading, kind, left, right):
