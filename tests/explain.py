@@ -48,7 +48,7 @@ class Source:
         return f"line {line}, column {column}"
 
     def excerpt(self, line, column):
-        """A line of the text, and a mark under one of its bytes; after the last line, a mark behind that."""
+        """A line of the text, and a mark under one of its bytes; where the text ends, one after it."""
         text = self.lines[line - 1].rstrip("\r")
         while line > 1 and not text.strip():
             line, text = line - 1, self.lines[line - 2].rstrip()
@@ -528,11 +528,17 @@ def after(file, line, as_rack=False):
 def input_channels(reading, line):
     """What it means that an input has other channels than a program that is accepted."""
     match = re.fullmatch("refused 29 Channels ([0-9]+) ([0-9]+)", line)
-    if not match or int(match[2]) != reading.inputs or match[1] == match[2]:
+    have, want = map(int, match.groups()) if match else (0, 0)
+    if want != reading.inputs or have == want:
         return []
-    have, want = match.groups()
-    if have == "0":
-        return [f"The program takes {streams(reading.inputs)}: name a sound file of as many channels as INPUT, instead of -."]
-    if want == "0":
+    if have == 0:
+        return [f"The program takes {streams(want)}: name a sound file of as many channels as INPUT, instead of -."]
+    if want == 0:
         return ["The program takes no stream: give - as INPUT, and --frames for the length."]
-    return [f"The input has {have} channels, and the program takes {want}: repeat it for each channel, as in par(i, {have}, effect)."]
+    cure = "drop channels by !, or name another file"
+    if have % want == 0:
+        cure = f"repeat it, as in process = par(i, {have // want}, effect)"
+    elif want % have == 0:
+        cure = f"copy the input to it, as in process = {','.join('_' * have)} <: effect"
+    channels = "1 channel" if have == 1 else f"{have} channels"
+    return [f"The input has {channels}, and the program takes {streams(want)}: {cure}."]

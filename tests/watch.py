@@ -15,6 +15,7 @@ from interpreter import OPERATIONS, wrap
 
 WIDTHS = (8, 16, 24, 32)
 MOST_BITS = 4_096
+MOST_ORIGINS = 8
 # What is fed back passes these in a generator; a value in the operands that are numbered below.
 LOOP_WORDS = {word: (0, 1) for word in "+ - * & | xor prefix".split()}
 LOOP_WORDS.update({"<<": (0,), ">>": (0,), "@": (0,), "mem": (0,), "_": (0,), "int": (0,), "!": (0,)})
@@ -115,7 +116,7 @@ class Settings:
         if self.sound is None:
             return [[0] * inputs] * self.frames
         if self.sound.channels != inputs:
-            raise Unusable(f"INPUT has {self.sound.channels} channels, and the program takes {inputs}")
+            raise Unusable(f"INPUT has {amount(self.sound.channels, 'channel')}, and the program takes {inputs}")
         return self.sound.frames
 
 
@@ -127,7 +128,10 @@ class Loops:
     each loop around it whose fed back numbers do."""
 
     def __init__(self, diagram):
-        self.acting, self.broken, self.within = collections.defaultdict(frozenset), set(), collections.defaultdict(frozenset)
+        # What acts on each loop; which of its outputs its own fed back numbers reach; the loops that are no generators, as what is
+        # fed back passes something else; and the loops whose fed back numbers reach each leaf.
+        self.acting, self.reached = collections.defaultdict(frozenset), collections.defaultdict(set)
+        self.broken, self.within = set(), collections.defaultdict(frozenset)
         self.facts(diagram, [frozenset(["input"])] * diagram.inputs, {})
         driven = {"input"}
         while True:
@@ -137,8 +141,9 @@ class Loops:
             driven |= more
         self.generators = set(self.acting) - driven - self.broken
 
-    def is_generator(self, diagram):
-        return id(diagram) in self.generators
+    def generated(self, diagram):
+        """Which outputs of a loop are those of a counter or a generator."""
+        return self.reached[id(diagram)] if id(diagram) in self.generators else set()
 
     def is_in_generator(self, diagram):
         return not self.generators.isdisjoint(self.within[id(diagram)])
@@ -179,6 +184,7 @@ class Loops:
         loop = frozenset([id(diagram)])
         facts = self.facts(left, self.facts(right, [loop] * right.inputs, known) + given, known)
         self.acting[id(diagram)] |= union(facts[: right.inputs]) - loop
+        self.reached[id(diagram)] |= {output for output, one in enumerate(facts) if one & loop}
         return [(one | self.acting[id(diagram)]) - loop if one & loop else one for one in facts]
 
 
@@ -197,16 +203,21 @@ class Origin:
 
 
 class Wrapped(int):
-    """A number that wrapped, with what it would be and where it wrapped first."""
+    """A number that wrapped, with what it would be and where it, or what it comes of, wrapped first."""
 
-    def __new__(cls, exact, origin):
+    def __new__(cls, exact, origins):
         number = super().__new__(cls, wrap(exact))
-        number.exact, number.origin = exact, origin
+        number.exact, number.origins = exact, origins
         return number
 
 
 def exact_of(number):
     return number.exact if type(number) is Wrapped else number
+
+
+def origins_of(numbers):
+    """Where these numbers wrapped first, each once."""
+    return list(dict.fromkeys(origin for number in numbers if type(number) is Wrapped for origin in number.origins))
 
 
 class Event:
@@ -280,17 +291,16 @@ class Watch(interpreter.Maker):
 
     def tell(self, numbers):
         """Notes that these numbers wrapped where something else comes of it."""
-        for number in numbers:
-            if type(number) is Wrapped and not number.origin.is_told:
-                number.origin.is_told = True
-                self.note(self.wraps, number.origin.diagram, number.origin.time, number.origin.operands)
+        for origin in origins_of(numbers):
+            if not origin.is_told:
+                origin.is_told = True
+                self.note(self.wraps, origin.diagram, origin.time, origin.operands)
 
     def kept(self, diagram, exact, operands):
         """A number as 32 bits keep it, with what it would be where that is another one."""
         if exact == wrap(exact):
             return exact
-        before = (number.origin for number in operands if type(number) is Wrapped)
-        number = Wrapped(exact, next(before, None) or Origin(diagram, self.time, operands))
+        number = Wrapped(exact, origins_of(operands)[:MOST_ORIGINS] or [Origin(diagram, self.time, operands)])
         if exact.bit_length() > MOST_BITS:
             self.tell([number])
             return int(number)
@@ -382,18 +392,17 @@ class Watch(interpreter.Maker):
         return run
 
     def feedback(self, diagram, left, right):
-        width, is_generator = diagram.parts[1].inputs, self.loops.is_generator(diagram)
+        width, generated = diagram.parts[1].inputs, self.loops.generated(diagram)
         fed = [0] * width
 
         def run(frame, known):
             nonlocal fed
             given = left(right(fed, known) + frame, known)
-            wrapped = [number for number in given[:width] if type(number) is Wrapped]
-            if wrapped and is_generator:
-                self.note(self.left_out, diagram, self.time, wrapped)
-                given = [*map(int, given[:width]), *given[width:]]
-            elif wrapped:
-                self.tell(wrapped)
+            for output in generated:
+                if type(given[output]) is Wrapped:
+                    self.note(self.left_out, diagram, self.time, given[:1])
+                    given[output] = int(given[output])
+            self.tell(given[:width])
             fed = [int(number) for number in given[:width]]
             return given
 
