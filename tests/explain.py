@@ -15,6 +15,8 @@ MOST_USES = 12
 PATIENCE_AFTER = 50_000
 # Refusals whose first two fields are a line and a column.
 PLACED = (5, 6, 7, 8, 9, 13, 18, 20, 21, 43)
+# Those of a text that is no tree of the grammar.
+UNREADABLE = (4, 5, 6, 7, 8, 9, 10, 43)
 
 
 # ---- places
@@ -265,7 +267,14 @@ class Reading(Program):
 
     def told(self, prefix=""):
         """The lines after its own; of a job, whose controls have labels that begin so."""
-        return refusal(self) if self.refused else composition(self, prefix)
+        return self.told_of_refusal() if self.refused else composition(self, prefix)
+
+    def told_of_refusal(self):
+        """The lines after its own for a text that is refused: the place, the chain of names, and what it means."""
+        place, lines = self.place(), []
+        if place:
+            lines = [f"  at {self.source.told(*place)}{self.ending(*place)}:", *self.source.excerpt(*place)]
+        return [*lines, *chain(self, self.path()), meaning(self)]
 
 
 def chain(reading, path):
@@ -280,14 +289,6 @@ def chain(reading, path):
         half = MOST_USES // 2
         lines[half:-half] = [f"  and in {len(lines) - 2 * half} others"]
     return [*lines, f"  in process, {reading.source.told(*reading.place_of_process())}"]
-
-
-def refusal(reading):
-    """The lines for a text that is refused, but for its own: the place, the chain of names, and what it means."""
-    place, lines = reading.place(), []
-    if place:
-        lines = [f"  at {reading.source.told(*place)}{reading.ending(*place)}:", *reading.source.excerpt(*place)]
-    return [*lines, *chain(reading, reading.path()), meaning(reading)]
 
 
 # ---- what a refusal means, and what usually cures it
@@ -365,6 +366,8 @@ def unclosed(reading, line, column):
 def syntax(reading, line, column):
     """What a grammar's refusal means, by the token that no program goes on with."""
     token = reading.token_at(line, column)
+    if reading.source.lines[line - 1].rstrip("\r") == "%%":
+        return "A line %% separates the programs of a file of jobs: give it to the command rack."
     if not token:
         return "The text ends within a definition: a ; is missing at its end, or a bracket is not closed."
     if token == ".":
@@ -471,6 +474,9 @@ class RackReading(Rack):
         delays = sum(job.delays for job in self.jobs)
         return f"jobs {len(self.jobs)} inputs {self.inputs} outputs {self.outputs} controls {len(self.controls)} delays {delays}"
 
+    def told_of_refusal(self):
+        return self.told(with_accepted=False)
+
     def told(self, with_accepted=True):
         """The lines after its own, for each job, or for each that is refused."""
         lines = []
@@ -492,10 +498,19 @@ class RackReading(Rack):
         return MEANINGS[number].format(*fields)
 
 
-def read(file, as_rack=False, patience=None):
-    """What comes of reading a file, as jobs where it is told so or has a line that separates some."""
-    as_rack = as_rack or interpreter.SEPARATOR.search(file)
-    return RackReading(file, patience) if as_rack else Reading(file, patience)
+def readings(file, as_rack=False, patience=None):
+    """What comes of reading a file: as one text, unless it is told that it has jobs, and then as jobs where lines separate some."""
+    if not as_rack:
+        yield Reading(file, patience)
+    if as_rack or interpreter.SEPARATOR.search(file):
+        yield RackReading(file, patience)
+
+
+def read(file, as_rack=False):
+    """What comes of reading a file as one text, or as jobs where it is none that can be read."""
+    found = list(readings(file, as_rack))
+    refused = found[0].refused
+    return found[-1] if refused and refused.number in UNREADABLE else found[0]
 
 
 def explanation(file, as_rack=False):
@@ -512,16 +527,11 @@ def lines_of(reading):
 def after(file, line, as_rack=False):
     """The lines for a file that the program refused by this line, without it; none where it was refused for something else."""
     patience = PATIENCE_AFTER if re.fullmatch("refused (23 EvalBudget|46 Job [0-9]+ 23)", line) else None
-    reading = read(file, as_rack, patience)
-    if not reading.refused:
-        return input_channels(reading, line)
-    is_rack = isinstance(reading, RackReading)
-    if reading.line() == line:
-        return reading.told(with_accepted=False) if is_rack else reading.told()
-    if is_rack and not as_rack:
-        reading = Reading(file, patience)
-        if reading.refused and reading.line() == line:
-            return [*reading.told(), "Lines %% separate the programs of a file of jobs, which the command rack reads."]
+    for reading in readings(file, as_rack, patience):
+        if not reading.refused:
+            return input_channels(reading, line)
+        if reading.line() == line:
+            return reading.told_of_refusal()
     return []
 
 
@@ -535,10 +545,12 @@ def input_channels(reading, line):
         return [f"The program takes {streams(want)}: name a sound file of as many channels as INPUT, instead of -."]
     if want == 0:
         return ["The program takes no stream: give - as INPUT, and --frames for the length."]
+    channels = "1 channel" if have == 1 else f"{have} channels"
+    if isinstance(reading, RackReading):
+        return [f"The input has {channels}, and the jobs take {streams(want)} together: name another file, or change a job."]
     cure = "drop channels by !, or name another file"
     if have % want == 0:
         cure = f"repeat it, as in process = par(i, {have // want}, effect)"
     elif want % have == 0:
         cure = f"copy the input to it, as in process = {','.join('_' * have)} <: effect"
-    channels = "1 channel" if have == 1 else f"{have} channels"
     return [f"The input has {channels}, and the program takes {streams(want)}: {cure}."]
