@@ -1,5 +1,5 @@
 -- What is played of a rack is a run of its jobs.
-use Rattle.std.proofs.Common.{◌≡◌, ℕ, Bool, true, false, List, length, All, Ok, Err, Some, None, refl, sym, ap, ◌∙◌, subst}
+use Rattle.std.proofs.Common.{◌≡◌, ℕ, ◌<◌, Bool, true, false, List, length, All, Ok, Err, Some, None, refl, sym, ap, ◌∙◌, subst}
 use Rattle.std.specs.Prelude.{Option, Result, ◌==◌, ◌/◌, ◌*◌, ◌+◌, if◌then◌else◌}
 use Rattle.std.proofs.lemmas.Bool.{eqb-true}
 use Rattle.fv_base.proofs.lemmas.Lists.{length_table, get_or_table}
