@@ -99,6 +99,11 @@ def parse(module):
                 constructors[module, word] = name
 
 
+def is_index(module):
+    """Whether a file only names other files, and defines nothing."""
+    return all(re.match(r"(?:pub )?mod ", body) for body in definitions[module].values())
+
+
 def place_of(module, name):
     """Where a name is defined, through files that hand it on."""
     for _ in range(8):
@@ -131,6 +136,24 @@ def ghost_imports(text):
 def named(line, known):
     """The definitions that a line of code names."""
     return [place for word in TOKEN.findall(line) if word in known for place in [place_of(*known[word])] if place]
+
+
+def clauses_of_call(path, function):
+    """The clauses of a call of a file of code by their names, each with the definitions that it names."""
+    with open(path, encoding="utf-8") as file:
+        text = file.read()
+    lines, known, clauses, clause = text.split("\n"), ghost_imports(text), collections.OrderedDict(), None
+    at = next((i for i, line in enumerate(lines) if re.search(rf"fn {function}\b", line)), None)
+    if at is None:
+        raise SystemExit(f"{path}: it has no call {function}")
+    while lines[at].strip() not in ("{", "{}"):
+        begun = re.match(r"\s*(?:ensures|requires)\b ?(\w*)", lines[at])
+        clause = begun[1] if begun else clause
+        places = named(lines[at], known)
+        if places:
+            clauses.setdefault(clause or "", []).extend(places)
+        at += 1
+    return clauses
 
 
 def operators_in(module, body):
