@@ -1,4 +1,4 @@
-"""The definitions of the crates, read by their text alone: which there are, what each names, and all that some of them need.
+"""The definitions of the crates, read by their text alone: which there are, what each names, and all that some of them need; and floors.
 
 A name that a tactic brings in can be missing. Types that code declares and words of std are counted, and not followed."""
 import collections
@@ -97,6 +97,20 @@ def parse(module):
         if re.match(r"(?:abbrev )?(?:pub )?data ", body):
             for word in re.findall(r"^  (\S+)\s*:", body, re.M):
                 constructors[module, word] = name
+
+
+def floors_of_crates():
+    """The crates in the order of crates.txt, each with its floor; and what is said there of each floor."""
+    floors, said, floor = collections.OrderedDict(), collections.OrderedDict(), ""
+    with open(os.path.join(ROOT, "..", "crates.txt"), encoding="utf-8") as file:
+        for line in file:
+            heading, crate = re.match(r"# floor (\w+): ([^(\n]*)", line), re.match(r"(\w+):", line)
+            if heading:
+                floor = heading[1]
+                said[floor] = heading[2].strip()
+            elif crate:
+                floors[crate[1]] = floor
+    return floors, said
 
 
 def is_index(module):
