@@ -154,12 +154,14 @@ def named(line, known):
 
 def clauses_of_call(path, function):
     """The clauses of a call of a file of code by their names, each with the definitions that it names."""
+    if not os.path.exists(path):
+        raise SystemExit(f"{os.path.relpath(path)}: there is no such file")
     with open(path, encoding="utf-8") as file:
         text = file.read()
     lines, known, clauses, clause = text.split("\n"), ghost_imports(text), collections.OrderedDict(), None
     at = next((i for i, line in enumerate(lines) if re.search(rf"fn {function}\b", line)), None)
     if at is None:
-        raise SystemExit(f"{path}: it has no call {function}")
+        raise SystemExit(f"{os.path.relpath(path)}: it has no call {function}")
     while lines[at].strip() not in ("{", "{}"):
         begun = re.match(r"\s*(?:ensures|requires)\b ?(\w*)", lines[at])
         clause = begun[1] if begun else clause
