@@ -80,6 +80,14 @@ fn graph_of(alloc: Global, definitions: &str, expression: &str) -> Result<Graph,
     Ok(propagate(alloc, &program.diagrams, program.root, &delays)?)
 }
 
+// The simpler graph of one without controls.
+fn simplified(alloc: Global, graph: &Graph) -> Result<Graph, Fail> {
+    if !are_short(graph) {
+        return Err("a delay is too long".into());
+    }
+    Ok(simplify(alloc, graph, &[])?)
+}
+
 // Eight frames of two numbers.
 const SAMPLES: [i32; 16] = [5, -1, 7, 0, 3, 9, -2, 1, 4, 4, -100, 65536, 8, 3, 0, 1];
 
@@ -93,14 +101,12 @@ fn equal_voices_are_one(rt: HostRuntime) -> Result<(), Fail> {
     };
     for (definitions, one, many) in &ROWS {
         let graph = graph_of(alloc, definitions, one)?;
-        assert!(rt; are_short(&graph));
-        let simple = simplify(alloc, &graph, &[])?;
+        let simple = simplified(alloc, &graph)?;
         let graph = graph_of(alloc, definitions, many)?;
         let images = find(alloc, &graph)?;
         assert!(rt; folds(&graph, &images), "{many}");
         let folded = fold(alloc, &graph)?;
-        assert!(rt; are_short(&graph));
-        let simpler = simplify(alloc, &graph, &[])?;
+        let simpler = simplified(alloc, &graph)?;
         assert_eq!(rt; (many, simpler.len()), (many, simple.len()));
         let want = given(alloc, &graph, &sound, 8)?;
         assert!(rt; given(alloc, &folded, &sound, 8)? == want, "{many}");
@@ -160,8 +166,7 @@ fn clocks_are_one(rt: HostRuntime) -> Result<(), Fail> {
     let wave = "wave(step) = abs((clock * step) % 65536 - 32768) - 16384;";
     let definitions = format!(in alloc; "{clock} {wave} voice(i) = wave(901 + 7 * i) / 16;")?;
     let graph = graph_of(alloc, definitions.as_str(), "sum(i, 16, voice(i))")?;
-    assert!(rt; are_short(&graph));
-    let simpler = simplify(alloc, &graph, &[])?;
+    let simpler = simplified(alloc, &graph)?;
     assert_eq!(rt; (backs(&graph), backs(&simpler)), (16, 1));
     Ok(())
 }
