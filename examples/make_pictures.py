@@ -26,7 +26,7 @@ FOLDER = os.path.dirname(os.path.abspath(__file__))
 # Examples of which one hears how high they sound.
 PITCHED = {"vibrato", "resonator", "string", "sequencer", "wavetable", "bank", "lowpass"}
 # Examples of noise, which is as loud up to half the rate.
-NOISY = {"noise", "rhythm"}
+NOISY = {"noise", "rhythm", "trio"}
 # Examples whose shape is the point, with the seconds at which some of it begins and ends at large.
 SHAPES = {
     "louder": (0.05, 0.07),
@@ -256,12 +256,13 @@ class Spectrogram:
 
     height = TALL
 
-    def __init__(self, samples, rate, share):
-        self.samples, self.rate, self.share = samples, rate, share
+    def __init__(self, label, samples, rate, share):
+        self.label, self.samples, self.rate, self.share = label, samples, rate, share
 
     def draw(self, picture, y):
         picture.text(LEFT - 6, y, f"{round(self.rate * self.share)} Hz", right=True)
         picture.text(LEFT - 6, y + TALL - 7, "0", right=True)
+        draw_labels(picture, y, TALL, self.label)
         draw_spectrogram(picture, y, self.samples, self.share)
 
 
@@ -320,7 +321,7 @@ def draw(name, source):
         panels += [Wave(words, samples, colour) for words, samples in zip(labels, sound.channels)]
         lists.append((sound.channels[0], colour))
     if name in PITCHED | NOISY:
-        panels.append(Spectrogram(sound.channels[-1], sound.rate, 0.5 if name in NOISY else 0.25))
+        panels.append(Spectrogram(labels[-1][1:], sound.channels[-1], sound.rate, 0.5 if name in NOISY else 0.25))
     shape = Shape(lists, sound.rate, SHAPES[name]) if name in SHAPES else None
     drawn(panels, shape, len(sound.channels[-1]) / sound.rate).save(os.path.join(FOLDER, name + ".png"))
 
@@ -331,7 +332,7 @@ def draw_file(path):
     stem = path[:-4] if path.lower().endswith(".wav") else path
     panels = [Wave(words, samples, BLUE) for words, samples in zip(named(os.path.basename(stem), sound.channels), sound.channels)]
     mixed = [sum(frame) / len(frame) for frame in zip(*sound.channels)]
-    panels.append(Spectrogram(mixed, sound.rate, 0.5))
+    panels.append(Spectrogram([], mixed, sound.rate, 0.5))
     seconds = len(mixed) / sound.rate
     loudest = max(range(len(mixed)), key=lambda at: abs(mixed[at])) / sound.rate
     first = max(0.0, min(loudest - 0.01, seconds - 0.02))
