@@ -1,9 +1,9 @@
 -- What is known where a diagram is fed.
-use Rattle.std.proofs.Common.{◌≡◌, ℕ, ◌<◌, ◌≤◌, Bool, true, false, List, [], ◌∷◌, length, refl, sym, subst, ◌∙◌, arith}
+use Rattle.std.proofs.Common.{◌≡◌, ℕ, ◌≤◌, Bool, true, false, List, [], ◌∷◌, length, refl, sym, subst, ◌∙◌, arith}
 use Rattle.std.specs.Prelude.{nat_lt, ◌==◌}
 use Rattle.std.proofs.lemmas.Bool.{ltb-true}
-use Rattle.fv_diagram.specs.Arena.{Arena, count_of, tree_of}
-use Rattle.fv_eval_drawing.specs.Makes.{Canvas, Extends, trees_of}
+use Rattle.fv_diagram.specs.Arena.{Arena}
+use Rattle.fv_eval_drawing.specs.Makes.{trees_of}
 
 not_true : (b : Bool) → (b ≡ true → ⊥) → b ≡ false
 not_true true n = absurd (n refl)
@@ -20,7 +20,3 @@ not_less n k i j e f h = not_true (nat_lt n k) (λ t. let l = ltb-true n k t in 
 pub none_of : (a : Arena) (is : List ℕ) → (length is ≡ 0 → ⊥) → trees_of a is ≡ [] → ⊥
 none_of a [] h e = h refl
 none_of a (i ∷ is) h e = absurd (cc)
-
-pub function_stays : (a b c : Canvas) (f : ℕ) → f < count_of a.diagrams → Extends a b → Extends b c
-    → tree_of c.diagrams f ≡ tree_of a.diagrams f
-function_stays a b c f l g h = h.trees f (omega (arith, l, g.longer)) ∙ g.trees f l

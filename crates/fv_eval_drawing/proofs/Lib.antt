@@ -10,3 +10,5 @@ pub mod Fed
 pub mod Kept
 pub mod Remembered
 pub mod Labels
+pub mod Wired
+pub mod Fits

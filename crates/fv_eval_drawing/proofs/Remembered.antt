@@ -21,6 +21,8 @@ use Rattle.fv_eval_scopes.specs.Memo.{AddsIntegers, IsInteger, IsKnown, Remember
 use Rattle.fv_eval_patterns.specs.Patterns.{IsValid}
 use Rattle.fv_eval_scopes.proofs.lemmas.Added.{adds_keeps, adds_longer}
 use Rattle.fv_eval_drawing.specs.Makes.{AreComposed, Canvas, Draws, Extends, IsThere}
+use Rattle.fv_eval_drawing.specs.inner.Wires.{AreWires}
+use Rattle.fv_eval_drawing.proofs.Wired.{still_inside, still_wires}
 
 -- ---- what is remembered
 
@@ -83,14 +85,18 @@ same_count a b values (Ok t) added err = ap count_of added.1
 same_count a b values (Err e) added err = ap count_of err
 
 -- the diagrams stay composed, and what is remembered of them stays true
-pub list_keeps : {E : Type 0} (a b : Canvas) (ks : List Known) (values : List ℤ) (r : Result ℕ E)
+pub list_keeps : {E : Type 0} (a b : Canvas) (ks : List Known) (ws rs : List ℕ) (values : List ℤ) (r : Result ℕ E)
     → IfOk r (λ t. (t ≡ length a.diagrams.lists) × (b.diagrams ≡ with_list a.diagrams values)) → OnErr r (b.diagrams ≡ a.diagrams)
     → ((i : ℕ) → i < count_of a.diagrams → tree_of b.diagrams i ≡ tree_of a.diagrams i)
-    → AreComposed a.diagrams × Remembers a.diagrams ks → AreComposed b.diagrams × Remembers b.diagrams ks
-list_keeps a b ks values r added err keeps h =
-    let e = same_count a.diagrams b.diagrams values r added err in (
+    → AreComposed a.diagrams × Remembers a.diagrams ks × AreWires a.diagrams ws × All (λ i. i < count_of a.diagrams) rs
+    → AreComposed b.diagrams × Remembers b.diagrams ks × AreWires b.diagrams ws × All (λ i. i < count_of b.diagrams) rs
+list_keeps a b ks ws rs values r added err keeps h =
+    let e = same_count a.diagrams b.diagrams values r added err in
+    let g = list_extends a b values r added err keeps in (
       λ i l. let k : i < count_of a.diagrams = omega (arith, e, l) in subst IsComposed (sym (keeps i k)) (h.0 i k),
-      still_remembers a b ks (list_extends a b values r added err keeps) h.1,
+      still_remembers a b ks g h.1,
+      still_wires a b ws g h.2,
+      still_inside a b rs g h.3,
     )
 
 -- ---- integers more

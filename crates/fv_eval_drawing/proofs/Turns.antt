@@ -7,7 +7,7 @@ use Rattle.fv_eval_drawing.specs.Lists.{all_from_right}
 use Rattle.fv_eval_drawing.proofs.Evals.{after_after, same_after, after_give}
 
 -- a list of two and more: the rest is put first
-further : (c : Diagram → Diagram → Diagram) (x y : Diagram) (xs ys : List Diagram) (s : State)
+pub further : (c : Diagram → Diagram → Diagram) (x y : Diagram) (xs ys : List Diagram) (s : State)
     → all_from_right c (x ∷ (xs ++ y ∷ ys)) s ≡ after (all_from_right c (xs ++ y ∷ ys) s) (λ r. put (c x r))
 further c x y [] ys s = refl
 further c x y (w ∷ ws) ys s = refl

@@ -1,10 +1,10 @@
 // A diagram on its arguments.
 
-ghost use Rattle.std.specs.Prelude.{◌≡◌, ◌<◌, ◌&&◌, ◌∷◌, ◌++◌, IfOk, nat_eq, replicate};
+ghost use Rattle.std.specs.Prelude.{◌≡◌, ◌<◌, ◌&&◌, [], ◌∷◌, ◌++◌, IfOk, nat_eq};
 ghost use Rattle.fv_diagram.specs.Arena.{count_of, tree_of};
-ghost use Rattle.fv_rules.specs.headline.Rules.{all_outputs, fed, takes_the_right};
-ghost use Rattle.fv_eval_drawing.specs.Makes.{AddsDiagrams, AreThere, Extends, MakesValue, trees_of};
-ghost use Rattle.fv_eval_drawing.specs.Lists.{Fills};
+ghost use Rattle.fv_rules.specs.headline.Rules.{all_outputs, fed, takes_the_right, wires};
+ghost use Rattle.fv_eval_drawing.specs.Makes.{AddsDiagrams, AreThere, Extends, Makes, MakesValue, trees_of};
+ghost use Rattle.fv_eval_drawing.specs.Lists.{Sides, feeding, filled};
 
 use crate::diagrams::Drawing;
 use crate::lists::Link;
@@ -55,19 +55,54 @@ impl Drawing {
         function: DiagramId,
         given: u64,
         parts: Vec<DiagramId>,
-    ) -> Result<Vec<DiagramId>, AllocError>
+    ) -> Result<Vec<DiagramId>, EvalRefusal>
         requires function { function < count_of self.old.diagrams }
         requires there { AreThere self.old.diagrams parts.items }
-        ensures fills { IfOk result
-            (λ v. Fills self.old self.new given (tree_of self.old.diagrams function) parts.items v.items) }
+        ensures sides { Sides self.old self.new
+            (filled given (tree_of self.old.diagrams function) (trees_of self.old.diagrams parts.items)) result }
         ensures adds { AddsDiagrams self.old self.new }
     {
-        let inputs = u64::from(self.arity(function).inputs);
-        let wire = self.leaf(&Node::Prim(Prim::Wire))?;
         if self.takes_one(function, given) {
-            with_one_before(parts, wire)
+            let wire = self.leaf(&Node::Prim(Prim::Wire))?;
+            Ok(with_one_before(parts, wire)?)
         } else {
-            with_more_behind(parts, wire, inputs.saturating_sub(given))
+            let inputs = u64::from(self.arity(function).inputs);
+            self.fill_behind(parts, inputs.saturating_sub(given))
+        }
+    }
+
+    // The arguments, with so many wires behind them, which are one diagram.
+    fn fill_behind(
+        &mut self,
+        parts: Vec<DiagramId>,
+        count: u64,
+    ) -> Result<Vec<DiagramId>, EvalRefusal>
+        requires { AreThere self.old.diagrams parts.items }
+        ensures sides { Sides self.old self.new (trees_of self.old.diagrams parts.items ++ wires count) result }
+        ensures adds { AddsDiagrams self.old self.new }
+    {
+        if count == 0 {
+            return Ok(parts);
+        }
+        match self.wires(count) {
+            Ok(wires) => Ok(with_one_behind(parts, wires)?),
+            Err(refusal) => Err(refusal),
+        }
+    }
+
+    // Parts side by side, and then a function.
+    fn lead(&mut self, parts: Vec<DiagramId>, function: DiagramId) -> Result<DiagramId, EvalRefusal>
+        requires function { function < count_of self.old.diagrams }
+        requires there { AreThere self.old.diagrams parts.items }
+        ensures makes { Makes self.old self.new (feeding (tree_of self.old.diagrams function) (trees_of self.old.diagrams parts.items)) result }
+        ensures keeps { Extends self.old self.new }
+    {
+        match self.from_right(Link::Parallel, parts) {
+            Ok(all) => self.put(&Node::Seq {
+                left: all,
+                right: function,
+            }),
+            Err(refusal) => Err(refusal),
         }
     }
 
@@ -91,12 +126,8 @@ impl Drawing {
         if inputs < given {
             return Err(EvalRefusal::TooManyArguments { given, inputs });
         }
-        let parts = self.fill(function, given, arguments)?;
-        match self.from_right(Link::Parallel, parts) {
-            Ok(all) => self.put(&Node::Seq {
-                left: all,
-                right: function,
-            }),
+        match self.fill(function, given, arguments) {
+            Ok(parts) => self.lead(parts, function),
             Err(refusal) => Err(refusal),
         }
     }
@@ -110,16 +141,10 @@ fn with_one_before(mut parts: Vec<DiagramId>, part: DiagramId) -> Result<Vec<Dia
     Ok(parts)
 }
 
-// A part so many times behind others.
-fn with_more_behind(
-    mut parts: Vec<DiagramId>,
-    part: DiagramId,
-    count: u64,
-) -> Result<Vec<DiagramId>, AllocError>
-    ensures { IfOk result (λ v. v.items ≡ parts.items ++ replicate count part) }
+// A part behind others.
+fn with_one_behind(mut parts: Vec<DiagramId>, part: DiagramId) -> Result<Vec<DiagramId>, AllocError>
+    ensures { IfOk result (λ v. v.items ≡ parts.items ++ part ∷ []) }
 {
-    'filling: for _i in 0..count {
-        parts.push(part)?;
-    }
+    parts.push(part)?;
     Ok(parts)
 }

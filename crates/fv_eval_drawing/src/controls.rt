@@ -1,9 +1,9 @@
 // The controls of a program.
 
-ghost use Rattle.std.specs.Prelude.{ℕ, ◌≡◌, [], MatchResult};
+ghost use Rattle.std.specs.Prelude.{ℕ, ◌≡◌, [], List, IfOk, IsTrue, MatchResult, Ok};
 ghost use Rattle.fv_rules.specs.declared.refusal.EvalRefusal.TheVariants.{NoMemory};
 ghost use Rattle.fv_rules.specs.headline.Steps.{is_alike, is_kind};
-ghost use Rattle.fv_eval_drawing.specs.Controls.{Enters};
+ghost use Rattle.fv_eval_drawing.specs.Controls.{Enters, HasLabel};
 
 use fv_diagram::{ControlInfo, ControlKind};
 use fv_rules::{EvalRefusal, too_many_to_count};
@@ -51,9 +51,26 @@ impl Controls {
         self.list.as_slice()
     }
 
+    /// Whether a control that has the label of the one with this number is that one again: it is of the same kind, with the same
+    /// numbers.
+    pub fn is_again(&self, number: u32, kind: ControlKind, init: i32, min: i32, max: i32) -> bool
+        ensures { IsTrue result → (label : List ℕ) → HasLabel self.now label number
+            → Enters self.now self.now (record { kind = kind; label = label; init = init; min = min; max = max }) (Ok number) }
+    {
+        if init < min || init > max {
+            return false;
+        }
+        match self.list.get(number as usize) {
+            None => false,
+            Some(known) => is_again(kind, init, min, max, known),
+        }
+    }
+
     /// The number of a control, which is a new one where its label is.
     pub fn enter(&mut self, info: ControlInfo) -> Result<u32, EvalRefusal>
-        ensures { Enters self.old self.new info result }
+        ensures enters { Enters self.old self.new info result }
+        ensures label { IfOk result (HasLabel self.new info.label) }
+        ensures keeps { (label : List ℕ) (k : ℕ) → HasLabel self.old label k → HasLabel self.new label k }
     {
         if info.init < info.min || info.init > info.max {
             return Err(EvalRefusal::ControlBounds { label: info.label });
@@ -94,6 +111,13 @@ fn is_alike(a: &ControlInfo, b: &ControlInfo) -> bool
     ensures { result ≡ is_alike a.now b.now }
 {
     is_kind(a.kind, b.kind) && (a.init == b.init && (a.min == b.min && a.max == b.max))
+}
+
+// The same, where the one has the other's label.
+fn is_again(kind: ControlKind, init: i32, min: i32, max: i32, known: &ControlInfo) -> bool
+    ensures { (label : List ℕ) → result ≡ is_alike (record { kind = kind; label = label; init = init; min = min; max = max }) known.now }
+{
+    is_kind(kind, known.kind) && (init == known.init && (min == known.min && max == known.max))
 }
 
 // Whether kinds are the same.

@@ -1,6 +1,6 @@
 // The diagrams of an evaluation.
 
-ghost use Rattle.std.specs.Prelude.{◌≡◌, ◌*◌, ◌<◌, ◌≤◌, All, IfOk, List, length};
+ghost use Rattle.std.specs.Prelude.{◌≡◌, ◌*◌, ◌<◌, ◌≤◌, All, IfOk, IfSome, List, Ok, length};
 ghost use Rattle.fv_diagram.specs.Arena.{ChildrenBelow, NamesLists, IsArity, count_of, empty_arena, tree_of, tree_with};
 ghost use Rattle.fv_diagram.specs.headline.Diagram.{has_table_primitive};
 ghost use Rattle.fv_diagram_numbers.specs.headline.Numbers.{number_of};
@@ -15,6 +15,8 @@ ghost use Rattle.fv_rules.specs.Puts.{Puts};
 ghost use Rattle.fv_eval_drawing.specs.Makes.{AddsDiagrams, AreComposed, Draws, Extends, IsLeaf, IsThere, Makes};
 ghost use Rattle.fv_base.specs.declared.limits.TheConstants.{SIZE_LIMIT};
 
+use crate::recent::{Recent, is_same};
+use crate::wires::Wires;
 use fv_base::limits::MOST_DIAGRAMS;
 use fv_diagram::{Arity, DiagramId, Diagrams, Node};
 use fv_eval_lookup::Definitions;
@@ -25,12 +27,15 @@ use fv_rules::{EvalRefusal, put, too_many_to_keep};
 use std::alloc::{AllocError, Global};
 use std::marker::Model;
 
-/// The diagrams of an evaluation, with the numbers of those that were asked for. Each is composed.
+/// The diagrams of an evaluation, with the numbers of those that were asked for, and the wires that were put side by side. Each
+/// is composed.
 #[derive(Drop)]
 pub struct Drawing {
     pub(crate) alloc: Global,
     pub(crate) diagrams: Diagrams,
     numbers: Numbers,
+    pub(crate) wires: Wires,
+    recent: Recent,
     // The table sum.
     pub(crate) tables: u64,
 }
@@ -38,12 +43,16 @@ pub struct Drawing {
 impl Model for Drawing {
     ghost use Rattle.fv_eval_scopes.specs.Memo.{Remembers};
     ghost use Rattle.fv_eval_drawing.specs.Makes.{AreComposed, Canvas};
+    ghost use Rattle.fv_eval_drawing.specs.inner.Wires.{AreWires};
+    ghost use Rattle.fv_diagram.specs.Arena.{count_of};
+    ghost use Rattle.std.specs.Prelude.{◌<◌, All};
 
     ghost Value = { Canvas };
 
     ghost view = { λ d. record { diagrams = d.diagrams; tables = d.tables } };
 
-    ghost invariant = { λ d. AreComposed d.diagrams × Remembers d.diagrams d.numbers };
+    ghost invariant = { λ d. AreComposed d.diagrams × Remembers d.diagrams d.numbers × AreWires d.diagrams d.wires
+        × All (λ i. i < count_of d.diagrams) d.recent };
 }
 
 impl Drawing {
@@ -55,6 +64,8 @@ impl Drawing {
             alloc,
             diagrams: Diagrams::new(alloc),
             numbers: Numbers::new(alloc),
+            wires: Wires::new(alloc),
+            recent: Recent::new(alloc),
             tables: 0,
         }
     }
@@ -81,8 +92,49 @@ impl Drawing {
         }
     }
 
-    // Puts a node as it is.
+    // Puts a node as it is. One that was put lately is found again.
     pub(crate) fn put_node(&mut self, node: &Node) -> Result<DiagramId, EvalRefusal>
+        requires children { ChildrenBelow (count_of self.old.diagrams) node.now }
+        requires lists { NamesLists (length self.old.diagrams.lists) node.now }
+        ensures puts { Puts self.new.diagrams (tree_with self.old.diagrams node.now) result }
+        ensures adds { AddsDiagrams self.old self.new }
+    {
+        match self.found_again(node) {
+            Some(id) => Ok(id),
+            None => match self.put_anew(node) {
+                Ok(id) => {
+                    self.keep_node(node, id);
+                    Ok(id)
+                }
+                Err(refusal) => Err(refusal),
+            },
+        }
+    }
+
+    // Keeps the diagram of a node, to be found again.
+    fn keep_node(&mut self, node: &Node, id: DiagramId)
+        requires { id < count_of self.old.diagrams }
+        ensures { self.new ≡ self.old }
+    {
+        self.recent.keep(node, id);
+    }
+
+    // The diagram of a node that was put lately.
+    fn found_again(&self, node: &Node) -> Option<DiagramId>
+        ensures puts { IfSome result (λ i. Puts self.now.diagrams (tree_with self.now.diagrams node.now) (Ok i)) }
+    {
+        let id = self.recent.get(node)?;
+        let found = self.diagrams.node(id);
+        if !is_same(&found, node) {
+            return None;
+        }
+        // The arena says here that the diagram is not too large.
+        let _size = self.diagrams.size(id);
+        Some(id)
+    }
+
+    // Puts a node as it is.
+    fn put_anew(&mut self, node: &Node) -> Result<DiagramId, EvalRefusal>
         requires children { ChildrenBelow (count_of self.old.diagrams) node.now }
         requires lists { NamesLists (length self.old.diagrams.lists) node.now }
         ensures puts { Puts self.new.diagrams (tree_with self.old.diagrams node.now) result }
@@ -158,7 +210,13 @@ impl Drawing {
             (λ i. Draws self.new.diagrams i (number_or (number_of (tree_of self.old.diagrams id)) (tree_of self.old.diagrams id))) }
         ensures adds { AddsDiagrams self.old self.new }
     {
-        self.numbers.settle(alloc, &mut self.diagrams, id)
+        if let Node::Number(_) = self.node(id) {
+            return Ok(id);
+        }
+        match self.number_of(alloc, id)? {
+            None => Ok(id),
+            Some(n) => self.leaf(&Node::Number(n)),
+        }
     }
 
     /// The right side and the bindings of the first rule that matches arguments; `None` where none does.

@@ -8,7 +8,9 @@ mod controls;
 mod diagrams;
 mod lists;
 mod pairs;
+mod recent;
 mod tables;
+mod wires;
 
 pub use controls::Controls;
 pub use diagrams::Drawing;

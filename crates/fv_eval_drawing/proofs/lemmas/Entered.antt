@@ -12,13 +12,13 @@ use Rattle.fv_eval_drawing.specs.Controls.{Enters}
 use Rattle.fv_eval_drawing.proofs.Labels.{IsFound}
 
 -- the control that was found
-numbered_some : (cs : List ControlInfo) (i : ℕ) (q : Option (ℕ × ControlInfo)) → IsFound 0 cs (Some i) q
+pub numbered_some : (cs : List ControlInfo) (i : ℕ) (q : Option (ℕ × ControlInfo)) → IsFound 0 cs (Some i) q
     → (o : ControlInfo) × (q ≡ Some (i, o)) × (slice_get cs i ≡ Some o)
 numbered_some cs i None h = absurd h
 numbered_some cs i (Some kc) h = (kc.1, ap (λ (k : ℕ). Some (k, kc.1)) (omega (arith, h.0)), h.1)
 
 -- none was
-numbered_none : (cs : List ControlInfo) (q : Option (ℕ × ControlInfo)) → IsFound 0 cs None q → q ≡ None
+pub numbered_none : (cs : List ControlInfo) (q : Option (ℕ × ControlInfo)) → IsFound 0 cs None q → q ≡ None
 numbered_none cs None h = refl
 numbered_none cs (Some kc) h = absurd h
 

@@ -7,9 +7,10 @@ use Rattle.std.specs.declared.alloc.Global.{Global}
 use Rattle.indexmap.specs.IndexSet.{insert_key}
 use Rattle.fv_diagram.specs.declared.control.ControlInfo.{ControlInfo}
 use Rattle.fv_rules.specs.headline.Steps.{is_alike, labelled}
-use Rattle.fv_eval_drawing.specs.Controls.{AreLabels, Enters}
+use Rattle.fv_eval_drawing.specs.Controls.{AreLabels, Enters, HasLabel}
 use Rattle.fv_eval_drawing.proofs.Labels.{IsFound, found, added}
 use Rattle.fv_eval_drawing.proofs.lemmas.Entered.{met_alike, met_unlike, met_none, numbered_inside, get_within}
+use Rattle.fv_eval_drawing.proofs.lemmas.Again.{label_comes, label_found, label_stays}
 use Rattle.fv_eval_drawing.proofs.controls.Controls.enter.Goals.{After-get_index_of}
 use Rattle.fv_eval_drawing.proofs.controls.Controls.enter.Goals as goal
 
@@ -26,28 +27,35 @@ looked_up c =
 in_bounds : (c : After-get_index_of) → (int_le c.args.info.min c.args.info.init && int_le c.args.info.init c.args.info.max) ≡ true
 in_bounds c = search rules
 
-pub returns-then-not-is_alike : goal.returns-then-not-is_alike
-returns-then-not-is_alike c =
+pub returns-then-not-is_alike-clause-enters : goal.returns-then-not-is_alike-clause-enters
+returns-then-not-is_alike-clause-enters c =
     let cs = c.args.self.now in
     let x = c.index.result.now in
-    let at = (goal.at.returns-then-not-is_alike c).After-get_index_of in
+    let at = (goal.at.returns-then-not-is_alike-clause-enters c).After-get_index_of in
     let n = subst (λ o. IsFound 0 cs o (labelled 0 cs c.args.info.label)) c.in-Some.is (looked_up at) in
     let e : x ≡ get_or cs c.in-Some.i x = rw (← c.self.view_is) c.index.ensures in
     let a : is_alike c.args.info x ≡ false = search rules in
     met_unlike cs c.args.info x c.in-Some.i
     (record { bounds = in_bounds at; found = n; at = get_within cs c.in-Some.i x (numbered_inside cs c.in-Some.i _ n) e }) a
 
-pub returns-else-not-is_alike : goal.returns-else-not-is_alike
-returns-else-not-is_alike c =
+pub returns-else-not-is_alike-clause-enters : goal.returns-else-not-is_alike-clause-enters
+returns-else-not-is_alike-clause-enters c =
     let cs = c.args.self.now in
     let x = c.index.result.now in
-    let at = (goal.at.returns-else-not-is_alike c).After-get_index_of in
+    let at = (goal.at.returns-else-not-is_alike-clause-enters c).After-get_index_of in
     let n = subst (λ o. IsFound 0 cs o (labelled 0 cs c.args.info.label)) c.in-Some.is (looked_up at) in
     let e : x ≡ get_or cs c.in-Some.i x = rw (← c.self.view_is) c.index.ensures in
     let a : is_alike c.args.info x ≡ true = search rules in
     met_alike cs c.args.info x c.in-Some.i
     (record { bounds = in_bounds at; found = n; at = get_within cs c.in-Some.i x (numbered_inside cs c.in-Some.i _ n) e }) a
     c.number.result c.number.ensures
+
+pub returns-else-not-is_alike-clause-label : goal.returns-else-not-is_alike-clause-label
+returns-else-not-is_alike-clause-label c =
+    let cs = c.args.self.now in
+    let at = (goal.at.returns-else-not-is_alike-clause-label c).After-get_index_of in
+    let n = subst (λ o. IsFound 0 cs o (labelled 0 cs c.args.info.label)) c.in-Some.is (looked_up at) in
+    label_found cs c.args.info.label c.in-Some.i n c.number.result c.number.ensures
 
 -- ---- a label that is new
 
@@ -71,12 +79,28 @@ invariant_of-self-else-is_err c =
     (subst (λ (cs : List ControlInfo). AreLabels (insert_key (λ (x y : Vec ℕ Global). bytes_eq x.items y.items) keys label) cs) (sym l)
     (added keys c.self.inside.list.items label c.args.info c.self.invariant same none))
 
-pub returns-else-is_err : goal.returns-else-is_err
-returns-else-is_err c =
+pub returns-else-is_err-clause-enters : goal.returns-else-is_err-clause-enters
+returns-else-is_err-clause-enters c =
     let cs = c.args.self.now in
     let info = c.args.info in
     let l : c.push.new.self.items ≡ cs ++ info ∷ [] = search rules in
-    let at = (goal.at.returns-else-is_err c).After-get_index_of in
+    let at = (goal.at.returns-else-is_err-clause-enters c).After-get_index_of in
     let n = subst (λ o. IsFound 0 cs o (labelled 0 cs info.label)) c.in-None.is (looked_up at) in
     let i : c.in_ok-i-in-None.i ≡ length cs = search rules in
     subst (λ (new : List ControlInfo). Enters cs new info (Ok c.in_ok-i-in-None.i)) (sym l) (met_none cs info c.in_ok-i-in-None.i (in_bounds at) n i)
+
+pub returns-else-is_err-clause-label : goal.returns-else-is_err-clause-label
+returns-else-is_err-clause-label c =
+    let cs = c.args.self.now in
+    let info = c.args.info in
+    let l : c.push.new.self.items ≡ cs ++ info ∷ [] = search rules in
+    let at = (goal.at.returns-else-is_err-clause-label c).After-get_index_of in
+    let n = subst (λ o. IsFound 0 cs o (labelled 0 cs info.label)) c.in-None.is (looked_up at) in
+    let i : c.in_ok-i-in-None.i ≡ length cs = search rules in
+    subst (λ (new : List ControlInfo). HasLabel new info.label c.in_ok-i-in-None.i) (sym l) (label_comes cs info c.in_ok-i-in-None.i n i)
+
+pub returns-else-is_err-clause-keeps : goal.returns-else-is_err-clause-keeps
+returns-else-is_err-clause-keeps c =
+    let cs = c.args.self.now in
+    let l : c.push.new.self.items ≡ cs ++ c.args.info ∷ [] = search rules in
+    λ label k h. subst (λ (new : List ControlInfo). HasLabel new label k) (sym l) (label_stays cs c.args.info label k h)

@@ -4,8 +4,9 @@ use Rattle.fv_rules.specs.declared.refusal.EvalRefusal.{EvalRefusal}
 use Rattle.fv_rules.specs.Puts.{Puts}
 use Rattle.fv_eval_drawing.specs.Makes.{AddsDiagrams, Canvas}
 use Rattle.fv_eval_drawing.proofs.Remembered.{put_extends, put_composed, still_remembers}
-use Rattle.fv_eval_drawing.proofs.diagrams.Drawing.put_node.Goals as goal
-use Rattle.fv_eval_drawing.proofs.diagrams.Drawing.put_node.Goals.{in-Ok+then-number-lt-MOST_DIAGRAMS, in-Ok+else-number-lt-MOST_DIAGRAMS, in-Err}
+use Rattle.fv_eval_drawing.proofs.Wired.{still_inside, still_wires}
+use Rattle.fv_eval_drawing.proofs.diagrams.Drawing.put_anew.Goals as goal
+use Rattle.fv_eval_drawing.proofs.diagrams.Drawing.put_anew.Goals.{in-Ok+then-number-lt-MOST_DIAGRAMS, in-Ok+else-number-lt-MOST_DIAGRAMS, in-Err}
 
 pub returns-clause-puts : goal.returns-clause-puts
 returns-clause-puts c =
@@ -37,4 +38,6 @@ invariant_of-self c =
     let grown = put_extends (canvas a) (canvas b) n c.put.result c.put.ensures.added c.put.ensures.err c.put.ensures.keeps in (
       put_composed a b n c.put.result c.self.invariant.0 below c.put.ensures.added c.put.ensures.composed c.put.ensures.err,
       still_remembers (canvas a) (canvas b) c.self.inside.numbers grown c.self.invariant.1,
+      still_wires (canvas a) (canvas b) c.self.inside.wires grown c.self.invariant.2,
+      still_inside (canvas a) (canvas b) c.self.inside.recent grown c.self.invariant.3,
     )
