@@ -51,12 +51,12 @@ pub drawn_grows : (p : Parsed) (m : code_machine.Machine) (new : Canvas) → Ext
 drawn_grows p m new g = diagrams_come (world p m) new.diagrams g.longer g.trees
 
 knows_drawn : (p : Parsed) (m : code_machine.Machine) (new : Canvas) → Extends m.drawing new → Knows p m → Knows p (record m { drawing = new })
-knows_drawn p m new g k = (recalls_grow p m.drawing.diagrams new.diagrams g.longer g.trees m.trials k.0, k.1)
+knows_drawn p m new g k = (recalls_grow p m.drawing.diagrams new.diagrams g.longer g.trees m.trials k.0, k.1, k.2)
 
 -- what is remembered of ways outward stays true where scopes were added
 pub knows_scoped : (p : Parsed) (m : code_machine.Machine) (new : Environments) → Grows (world p m) (world p (record m { scopes = new }))
     → Knows p m → Knows p (record m { scopes = new })
-knows_scoped p m new g k = (k.0, shortcuts_grow p m.scopes.scopes new.scopes g.scopes m.shortcuts k.1)
+knows_scoped p m new g k = (k.0, shortcuts_grow p m.scopes.scopes new.scopes g.scopes m.shortcuts k.1, k.2)
 
 -- and the table sum is the same
 pub drawn_grew : (p : Parsed) (m : code_machine.Machine) (new : Canvas) → AddsDiagrams m.drawing new → Grew p m (record m { drawing = new })
@@ -74,7 +74,7 @@ chosen_grew p m new fs g recalls = record {
   lists = drawn_grows p m new g.keeps;
   continuations = refl;
   state = ap (λ (n : ℕ). record (state_of m) { tables = n }) g.tables;
-  knows = λ k. (recalls, k.1);
+  knows = λ k. (recalls, k.1, k.2);
 }
 
 -- an environment was made

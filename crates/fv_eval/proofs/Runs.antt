@@ -6,7 +6,7 @@ use Rattle.fv_parse_grammar.specs.headline.Tree.{Tree}
 use Rattle.fv_parse.specs.headline.Trees.{text_of}
 use Rattle.fv_parse.specs.Trees.{Parsed, program_of, size_of, first_named}
 use Rattle.fv_diagram.specs.headline.Diagram.{Diagram, has_table_primitive}
-use Rattle.fv_diagram.specs.Arena.{Arena, count_of, tree_of}
+use Rattle.fv_diagram.specs.Arena.{count_of, tree_of}
 use Rattle.fv_eval_patterns.specs.Trials.{Recalls}
 use Rattle.fv_eval_patterns.proofs.lemmas.LongPatterns.{recalls_nothing}
 use Rattle.fv_rules.specs.declared.refusal.EvalRefusal.{EvalRefusal}
@@ -22,6 +22,7 @@ use Rattle.fv_rules.specs.declared.refusal.EvalRefusal.TheVariants.{TableForm}
 use Rattle.fv_rules.specs.declared.refusal.TableCause.TheVariants as cause
 use Rattle.fv_rules.specs.headline.Steps.{State, Outcome, Eval, after, ◌>>=◌, give, refuse, whole as no_primitive}
 use Rattle.fv_rules.specs.headline.Rules.{ev, flat, finished, name_value, program_value, start, turned}
+use Rattle.fv_eval_drawing.specs.Controls.{AreLabelled}
 use Rattle.fv_eval_scopes.specs.Shows.{ShowsValue, ShowsEnv}
 use Rattle.fv_rules.specs.Machine.{Config, Drawn, Finish, Ended, StartsMean, StepsMean, first, meaning, step}
 use Rattle.fv_eval.specs.declared.continuation.Continuation as code_continuation
@@ -156,7 +157,11 @@ starts p m s fs root name env new opened pushed rooted inside named =
         named,
         shown,
         (
-          (subst (Recalls p m.drawing.diagrams) (sym new.4) (recalls_nothing p m.drawing.diagrams), new.5 p s.scopes),
+          (
+            subst (Recalls p m.drawing.diagrams) (sym new.4) (recalls_nothing p m.drawing.diagrams),
+            new.5 p s.scopes,
+            subst (AreLabelled p m.controls) (sym new.6) (λ i k e. absurd (cc)),
+          ),
           ([], continuation.Drawn drawn.Finish, continuations, tt, refl),
         ),
       ),

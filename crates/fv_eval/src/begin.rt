@@ -117,7 +117,7 @@ impl Machine {
                 }
                 self.waveform(literals.as_slice())
             }
-            TreeNode::Switch(kind, n) => self.switch(*kind, tree.label(*n)),
+            TreeNode::Switch(kind, n) => self.switch(tree, *kind, *n),
             TreeNode::Slider(_, _, _, _, _, _) => self.slider(text, id, env),
             TreeNode::Rule(_, _) | TreeNode::Constant(_, _) | TreeNode::Function(_, _, _) => {
                 Err(not_a_diagram(tree, id))

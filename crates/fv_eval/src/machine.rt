@@ -10,7 +10,7 @@ ghost use Rattle.fv_rules.specs.Machine.{Call, Config, Continuation as Waiting, 
 ghost use Rattle.fv_eval.specs.inner.Continuations.{Continues, Ends, Goes, IsNew, Runs, ShowsContinuation, Steps, world};
 
 use crate::continuation::{Continuation, Continuations, Focus};
-use fv_eval_drawing::{Controls, Drawing};
+use fv_eval_drawing::{Controls, Drawing, Labels};
 use fv_eval_lookup::{Definitions, Shortcuts};
 use fv_eval_patterns::Trials;
 use fv_eval_scopes::{Scopes, Value};
@@ -25,6 +25,8 @@ pub struct Machine {
     pub drawing: Drawing,
     pub scopes: Scopes,
     pub controls: Controls,
+    /// The controls of the labels that were met.
+    pub labels: Labels,
     pub continuations: Continuations,
     /// What is remembered of long patterns: which diagrams they do not match, which they may, and what they bind there.
     pub trials: Trials,
@@ -46,6 +48,7 @@ impl Machine {
             drawing: Drawing::new(alloc),
             scopes: Scopes::new(alloc),
             controls: Controls::new(alloc),
+            labels: Labels::new(alloc),
             continuations: Continuations::new(alloc),
             trials: Trials::new(alloc),
             shortcuts: Shortcuts::new(alloc),

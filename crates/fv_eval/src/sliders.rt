@@ -5,19 +5,22 @@ ghost use Rattle.fv_parse_grammar.specs.headline.Tree.{Tree as Spelled, Slider a
 ghost use Rattle.fv_parse_grammar.specs.Slider.{Slider as SliderKind};
 ghost use Rattle.fv_parse.specs.headline.Trees.{label_of};
 ghost use Rattle.fv_parse.specs.Trees.{Parsed, size_of, tree_in};
-ghost use Rattle.fv_rules.specs.headline.Values.{Env, Value as Meant};
+ghost use Rattle.fv_diagram.specs.headline.Diagram.{Control};
+ghost use Rattle.fv_rules.specs.headline.Values.{Env, Flat, Value as Meant};
 ghost use Rattle.fv_rules.specs.headline.Matching.{value_number};
 ghost use Rattle.fv_rules.specs.headline.Steps.{control};
 ghost use Rattle.fv_rules.specs.headline.Rules.{flat, read_number, slider_info, slider_kind, switch_info, switch_kind};
 ghost use Rattle.fv_eval_scopes.specs.Shows.{ShowsValue};
 ghost use Rattle.fv_eval_drawing.specs.Makes.{IsThere as IsDrawn};
-ghost use Rattle.fv_rules.specs.Machine.{given, next_parameter, parameter_read};
+ghost use Rattle.fv_rules.specs.Machine.{Give, Running, given, next_parameter, parameter_read};
+ghost use Rattle.fv_eval_drawing.specs.Controls.{info_of};
 ghost use Rattle.fv_eval.specs.inner.Continuations.{IsSlider, IsThere, ShowsSlider, Steps, parameters_of, world};
 
 use crate::continuation::{Continuation, Focus, ForValue};
 use crate::iterate::not_a_number;
 use crate::machine::Machine;
-use fv_diagram::{ControlInfo, ControlKind, Label, Node};
+use fv_diagram::{ControlKind, Label, Node};
+use fv_eval_drawing::Range;
 use fv_eval_lookup::Definitions;
 use fv_eval_scopes::Value;
 use fv_parse::{Tree, TreeId, TreeNode};
@@ -65,31 +68,50 @@ fn part_of(tree: &Tree, slider: TreeId, i: usize) -> Option<TreeId>
 }
 
 impl Machine {
-    // A control is given.
-    fn control(&mut self, info: ControlInfo) -> Result<Focus, EvalRefusal>
-        ensures { (p : Parsed) → Steps p self.old self.new result (λ Fs s. given (flat (control info) s) Fs) }
+    // A control with this label is given. Where the label was met before, it is not read again.
+    fn control(&mut self, tree: &Tree, label: u64, range: &Range) -> Result<Focus, EvalRefusal>
+        ensures { Steps tree.now self.old self.new result (λ Fs s. given (flat (control (info_of range.now (label_of tree.now.tokens label))) s) Fs) }
     {
-        match self.controls.enter(info) {
+        match self.labels.met(&self.controls, label, range) {
+            Some(number) => self.give_control(number),
+            None => self.enter(tree, label, range),
+        }
+    }
+
+    // The control with this number is given.
+    fn give_control(&mut self, number: u32) -> Result<Focus, EvalRefusal>
+        ensures { (p : Parsed) → Steps p self.old self.new result (λ Fs s. Running (Give (Flat (Control number))) Fs s) }
+    {
+        let id = self.drawing.leaf(&Node::Control(number))?;
+        Ok(Focus::Give(Value::Diagram(id)))
+    }
+
+    // A control with this label is entered and given, and its label is kept.
+    fn enter(&mut self, tree: &Tree, label: u64, range: &Range) -> Result<Focus, EvalRefusal>
+        ensures { Steps tree.now self.old self.new result (λ Fs s. given (flat (control (info_of range.now (label_of tree.now.tokens label))) s) Fs) }
+    {
+        let name = Label::new(self.alloc, tree.label(label))?;
+        match self.controls.enter(range.named(name)) {
             Ok(number) => {
-                let id = self.drawing.leaf(&Node::Control(number))?;
-                Ok(Focus::Give(Value::Diagram(id)))
+                self.labels.keep(label, number);
+                self.give_control(number)
             }
             Err(refusal) => Err(refusal),
         }
     }
 
     /// A button or a checkbox.
-    pub fn switch(&mut self, kind: Switch, label: &[u8]) -> Result<Focus, EvalRefusal>
-        ensures { (p : Parsed) → Steps p self.old self.new result (λ Fs s. given (flat (control (switch_info (switch_kind kind) label.now)) s) Fs) }
+    pub fn switch(&mut self, tree: &Tree, kind: Switch, label: u64) -> Result<Focus, EvalRefusal>
+        ensures { Steps tree.now self.old self.new result
+            (λ Fs s. given (flat (control (switch_info (switch_kind kind) (label_of tree.now.tokens label))) s) Fs) }
     {
-        let label = Label::new(self.alloc, label)?;
-        self.control(ControlInfo {
+        let range = Range {
             kind: switch_kind(kind),
-            label,
             init: 0,
             min: 0,
             max: 1,
-        })
+        };
+        self.control(tree, label, &range)
     }
 
     /// The next parameter of a slider is visited, or the slider is given.
@@ -136,14 +158,13 @@ impl Machine {
         let [init, min, max, ..] = numbers else {
             unreachable!();
         };
-        let label = Label::new(self.alloc, tree.label(*n))?;
-        self.control(ControlInfo {
+        let range = Range {
             kind: slider_kind(*kind),
-            label,
             init: *init,
             min: *min,
             max: *max,
-        })
+        };
+        self.control(tree, *n, &range)
     }
 
     // The number of a value; `None` where it has none.

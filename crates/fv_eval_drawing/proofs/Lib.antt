@@ -9,6 +9,6 @@ pub mod Tabling
 pub mod Fed
 pub mod Kept
 pub mod Remembered
-pub mod Labels
+pub mod Keys
 pub mod Wired
 pub mod Fits

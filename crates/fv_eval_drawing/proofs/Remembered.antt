@@ -21,7 +21,7 @@ use Rattle.fv_eval_scopes.specs.Memo.{AddsIntegers, IsInteger, IsKnown, Remember
 use Rattle.fv_eval_patterns.specs.Patterns.{IsValid}
 use Rattle.fv_eval_scopes.proofs.lemmas.Added.{adds_keeps, adds_longer}
 use Rattle.fv_eval_drawing.specs.Makes.{AreComposed, Canvas, Draws, Extends, IsThere}
-use Rattle.fv_eval_drawing.specs.inner.Wires.{AreWires}
+use Rattle.fv_eval_drawing.specs.Wires.{AreWires}
 use Rattle.fv_eval_drawing.proofs.Wired.{still_inside, still_wires}
 
 -- ---- what is remembered

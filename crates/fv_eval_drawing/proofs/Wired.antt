@@ -11,7 +11,7 @@ use Rattle.fv_rules.specs.headline.Rules.{wires}
 use Rattle.fv_rules.specs.Puts.{Puts}
 use Rattle.fv_eval_drawing.specs.Lists.{all_from_right}
 use Rattle.fv_eval_drawing.specs.Makes.{AddsDiagrams, Canvas, Draws, Extends}
-use Rattle.fv_eval_drawing.specs.inner.Wires.{AreWires, IsWired, side_by_side}
+use Rattle.fv_eval_drawing.specs.Wires.{AreWires, IsWired, side_by_side}
 use Rattle.fv_eval_drawing.proofs.Arenas.{extends_on}
 use Rattle.fv_eval_drawing.proofs.Turns.{further}
 

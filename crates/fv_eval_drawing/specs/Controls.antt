@@ -1,10 +1,13 @@
 -- How the labels of controls are kept, and what entering a control answers.
-use Rattle.std.specs.Prelude.{◌≡◌, ◌⊎◌, ℕ, List, map, Some, Result, Ok, Err, Vec, slice_get}
+use Rattle.std.specs.Prelude.{◌≡◌, ◌⊎◌, ℕ, List, map, Option, Some, Result, Ok, Err, Vec, slice_get}
 use Rattle.std.specs.declared.alloc.Global.{Global}
+use Rattle.fv_parse.specs.headline.Trees.{label_of}
+use Rattle.fv_parse.specs.Trees.{Parsed}
 use Rattle.fv_diagram.specs.headline.Diagram.{Control}
 use Rattle.fv_diagram.specs.declared.control.ControlInfo.{ControlInfo}
 use Rattle.fv_rules.specs.declared.refusal.EvalRefusal.{EvalRefusal}
 use Rattle.fv_rules.specs.declared.refusal.EvalRefusal.TheVariants.{NoMemory}
+use Rattle.fv_eval_drawing.specs.declared.controls.Range.{Range}
 use Rattle.fv_rules.specs.headline.Steps.{State, control, labelled}
 
 -- the keys are the labels of the controls, in their order
@@ -21,3 +24,11 @@ pub record HasLabel (cs : List ControlInfo) (label : List ℕ) (k : ℕ) : Type 
   pub info : ControlInfo
   pub first : labelled 0 cs label ≡ Some (k, info)
   pub at : slice_get cs k ≡ Some info
+
+-- a control with its label
+abbrev pub info_of : Range → List ℕ → ControlInfo
+info_of r label = record { kind = r.kind; label = label; init = r.init; min = r.min; max = r.max }
+
+-- the numbers that are kept, by string tokens of a text, are of controls with these labels
+abbrev pub AreLabelled : Parsed → List ControlInfo → List (Option ℕ) → Type 0
+AreLabelled p cs ns = (n k : ℕ) → slice_get ns n ≡ Some (Some k) → HasLabel cs (label_of p.tokens n) k

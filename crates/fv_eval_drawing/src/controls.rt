@@ -3,13 +3,37 @@
 ghost use Rattle.std.specs.Prelude.{ℕ, ◌≡◌, [], List, IfOk, IsTrue, MatchResult, Ok};
 ghost use Rattle.fv_rules.specs.declared.refusal.EvalRefusal.TheVariants.{NoMemory};
 ghost use Rattle.fv_rules.specs.headline.Steps.{is_alike, is_kind};
-ghost use Rattle.fv_eval_drawing.specs.Controls.{Enters, HasLabel};
+ghost use Rattle.fv_eval_drawing.specs.Controls.{Enters, HasLabel, info_of};
 
-use fv_diagram::{ControlInfo, ControlKind};
+use fv_diagram::{ControlInfo, ControlKind, Label};
 use fv_rules::{EvalRefusal, too_many_to_count};
 use indexmap::IndexSet;
 use std::alloc::Global;
 use std::marker::Model;
+
+/// What a control is but for its label.
+#[derive(Clone, Copy)]
+pub struct Range {
+    pub kind: ControlKind,
+    pub init: i32,
+    pub min: i32,
+    pub max: i32,
+}
+
+impl Range {
+    /// The control with this label.
+    pub fn named(&self, label: Label) -> ControlInfo
+        ensures { result ≡ info_of self.now label }
+    {
+        ControlInfo {
+            kind: self.kind,
+            label,
+            init: self.init,
+            min: self.min,
+            max: self.max,
+        }
+    }
+}
 
 /// The controls of a program, in the order of their first evaluation.
 #[derive(Drop)]
@@ -51,18 +75,18 @@ impl Controls {
         self.list.as_slice()
     }
 
-    /// Whether a control that has the label of the one with this number is that one again: it is of the same kind, with the same
-    /// numbers.
-    pub fn is_again(&self, number: u32, kind: ControlKind, init: i32, min: i32, max: i32) -> bool
+    // Whether a control that has the label of the one with this number is that one again: it is of the same kind, with the same
+    // numbers.
+    pub(crate) fn is_again(&self, number: u32, range: &Range) -> bool
         ensures { IsTrue result → (label : List ℕ) → HasLabel self.now label number
-            → Enters self.now self.now (record { kind = kind; label = label; init = init; min = min; max = max }) (Ok number) }
+            → Enters self.now self.now (info_of range.now label) (Ok number) }
     {
-        if init < min || init > max {
+        if range.init < range.min || range.init > range.max {
             return false;
         }
         match self.list.get(number as usize) {
             None => false,
-            Some(known) => is_again(kind, init, min, max, known),
+            Some(known) => is_again(range, known),
         }
     }
 
@@ -114,10 +138,11 @@ fn is_alike(a: &ControlInfo, b: &ControlInfo) -> bool
 }
 
 // The same, where the one has the other's label.
-fn is_again(kind: ControlKind, init: i32, min: i32, max: i32, known: &ControlInfo) -> bool
-    ensures { (label : List ℕ) → result ≡ is_alike (record { kind = kind; label = label; init = init; min = min; max = max }) known.now }
+fn is_again(range: &Range, known: &ControlInfo) -> bool
+    ensures { (label : List ℕ) → result ≡ is_alike (info_of range.now label) known.now }
 {
-    is_kind(kind, known.kind) && (init == known.init && (min == known.min && max == known.max))
+    is_kind(range.kind, known.kind)
+        && (range.init == known.init && (range.min == known.min && range.max == known.max))
 }
 
 // Whether kinds are the same.

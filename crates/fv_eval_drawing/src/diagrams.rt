@@ -43,7 +43,7 @@ pub struct Drawing {
 impl Model for Drawing {
     ghost use Rattle.fv_eval_scopes.specs.Memo.{Remembers};
     ghost use Rattle.fv_eval_drawing.specs.Makes.{AreComposed, Canvas};
-    ghost use Rattle.fv_eval_drawing.specs.inner.Wires.{AreWires};
+    ghost use Rattle.fv_eval_drawing.specs.Wires.{AreWires};
     ghost use Rattle.fv_diagram.specs.Arena.{count_of};
     ghost use Rattle.std.specs.Prelude.{◌<◌, All};
 

@@ -6,12 +6,14 @@
 mod application;
 mod controls;
 mod diagrams;
+mod labels;
 mod lists;
 mod pairs;
 mod recent;
 mod tables;
 mod wires;
 
-pub use controls::Controls;
+pub use controls::{Controls, Range};
 pub use diagrams::Drawing;
+pub use labels::Labels;
 pub use lists::Link;

@@ -7,7 +7,7 @@ ghost use Rattle.fv_diagram.specs.Arena.{Arena, count_of};
 ghost use Rattle.fv_rules.specs.declared.refusal.EvalRefusal.TheVariants.{NoMemory};
 ghost use Rattle.fv_rules.specs.headline.Steps.{State};
 ghost use Rattle.fv_eval_drawing.specs.Makes.{AddsDiagrams, Draws};
-ghost use Rattle.fv_eval_drawing.specs.inner.Wires.{AreWires, IsWired, side_by_side};
+ghost use Rattle.fv_eval_drawing.specs.Wires.{AreWires, IsWired, side_by_side};
 
 use crate::diagrams::Drawing;
 use fv_diagram::{DiagramId, Node, Prim};

@@ -159,7 +159,7 @@ fn applied_abstractions(rt: HostRuntime) -> Result<(), Fail> {
     assert_answers(&rt, rt.alloc(), &APPLIED_ABSTRACTIONS)
 }
 
-static APPLIED_DIAGRAMS: [Row; 9] = [
+static APPLIED_DIAGRAMS: [Row; 10] = [
     Row {
         text: "process = +(1,2);",
         answer: "0 to 1: ((1,2):Point(Add))",
@@ -193,6 +193,11 @@ static APPLIED_DIAGRAMS: [Row; 9] = [
     Row {
         text: "process = select3(_,10,20,30);",
         answer: "1 to 1: ((Wire,(10,(20,30))):Point(Select3))",
+    },
+    // The same number of wires again, and fewer.
+    Row {
+        text: "process = (_,_,_)(1), (!,!)(2), (_,_,_)(3);",
+        answer: "5 to 6: (((1,(Wire,Wire)):(Wire,(Wire,Wire))),(((2,Wire):(Cut,Cut)),((3,(Wire,Wire)):(Wire,(Wire,Wire)))))",
     },
     // Arguments are turned into diagrams.
     Row {
@@ -309,7 +314,7 @@ fn arities(rt: HostRuntime) -> Result<(), Fail> {
     assert_answers(&rt, rt.alloc(), &ARITIES)
 }
 
-static CONTROLS: [Row; 3] = [
+static CONTROLS: [Row; 4] = [
     Row {
         text: "process = button(\"go\"), checkbox(\"on\");",
         answer: "0 to 2: (control 0,control 1); Button 0 0 1 go; Checkbox 0 0 1 on",
@@ -322,6 +327,11 @@ static CONTROLS: [Row; 3] = [
     Row {
         text: "process = hslider(\"v\",5,0,10,1), hslider(\"v\",5,0,10,2);",
         answer: "0 to 2: (control 0,control 0); HSlider 5 0 10 v",
+    },
+    // So it is where one place of the text is evaluated again, behind another control.
+    Row {
+        text: "f(x) = button(\"b\"), hslider(\"v\",x,0,10,1); process = f(5), f(5);",
+        answer: "0 to 4: ((control 0,control 1),(control 0,control 1)); Button 0 0 1 b; HSlider 5 0 10 v",
     },
 ];
 

@@ -3,7 +3,7 @@
 use crate::rows::{Row, assert_answers};
 use std::test::Fail;
 
-static REFUSALS: [Row; 21] = [
+static REFUSALS: [Row; 23] = [
     Row {
         text: "process = par(i,16385,_);",
         answer: "SizeBudget { size: 16385 }",
@@ -71,6 +71,15 @@ static REFUSALS: [Row; 21] = [
     Row {
         text: "process = button(\"g\"), checkbox(\"g\");",
         answer: "ControlClash g",
+    },
+    // The same where one place of the text is evaluated again.
+    Row {
+        text: "f(x) = hslider(\"g\",x,0,10,1); process = f(1), f(2);",
+        answer: "ControlClash g",
+    },
+    Row {
+        text: "f(x) = hslider(\"g\",x,0,10,1); process = f(1), f(11);",
+        answer: "ControlBounds g",
     },
     Row {
         text: "process = hslider(\"g\",11,0,10,1);",

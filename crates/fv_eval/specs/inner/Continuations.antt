@@ -40,6 +40,7 @@ use Rattle.fv_eval_patterns.specs.Trials.{Recalls}
 use Rattle.fv_eval_lookup.specs.Shortcuts.{AreShortcuts}
 use Rattle.fv_eval_scopes.specs.declared.value.Scope.{Scope as AScope}
 use Rattle.fv_eval_patterns.specs.Remembered.{nothing}
+use Rattle.fv_eval_drawing.specs.Controls.{AreLabelled}
 
 -- the lists of a machine over a tree
 abbrev pub world : Parsed → code_machine.Machine → World
@@ -52,11 +53,12 @@ state_of m = record { visits = m.visits; controls = m.controls; slot = m.slot; t
 abbrev pub IsNew : code_machine.Machine → State → Type 0
 IsNew m s =
     (m.drawing.diagrams ≡ empty_arena) × (m.scopes ≡ record { scopes = []; taken = [] }) × (m.continuations ≡ []) × (state_of m ≡ s)
-    × (m.trials ≡ nothing) × ((p : Parsed) (scopes : List AScope) → AreShortcuts p scopes m.shortcuts)
+    × (m.trials ≡ nothing) × ((p : Parsed) (scopes : List AScope) → AreShortcuts p scopes m.shortcuts) × (m.labels ≡ [])
 
--- what the machine remembers of patterns and of ways outward is true of the tree
+-- what the machine remembers of patterns, of ways outward and of labels is true of the tree
 abbrev pub Knows : Parsed → code_machine.Machine → Type 0
-Knows p m = Recalls p m.drawing.diagrams m.trials × AreShortcuts p m.scopes.scopes m.shortcuts
+Knows p m =
+    Recalls p m.drawing.diagrams m.trials × AreShortcuts p m.scopes.scopes m.shortcuts × AreLabelled p m.controls m.labels
 
 -- these numbers are these diagrams, in order
 abbrev pub AllDraw : World → List ℕ → List Diagram → Type 0

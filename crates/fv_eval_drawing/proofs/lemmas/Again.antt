@@ -1,5 +1,6 @@
 -- Controls whose labels are known.
-use Rattle.std.proofs.Common.{◌≡◌, ℕ, suc, ◌+◌, ◌&&◌, Bool, true, false, List, [], ◌∷◌, ◌++◌, length, Option, Some, None, Result, Ok, Err, refl, sym, ap, ◌∙◌, subst, arith}
+use Rattle.std.proofs.Common.{◌≡◌, ℕ, suc, ◌+◌, ◌&&◌, Bool, true, false, List, [], ◌∷◌, ◌++◌, length, Option, Some, None, Result, Ok, Err}
+use Rattle.std.proofs.Common.{refl, sym, ap, ◌∙◌, subst, arith}
 use Rattle.std.specs.Prelude.{bytes_eq, int_le, slice_get, IfOk, MatchResult, if◌then◌else◌}
 use Rattle.std.proofs.lemmas.Cmp.{nat_list_eq_equiv}
 use Rattle.std.proofs.lemmas.Option.{none-some}
@@ -9,7 +10,7 @@ use Rattle.fv_rules.specs.declared.refusal.EvalRefusal.TheVariants.{NoMemory}
 use Rattle.fv_rules.specs.headline.Steps.{is_alike, labelled}
 use Rattle.fv_eval_scopes.proofs.lemmas.Grown.{last_place, place_stays}
 use Rattle.fv_eval_drawing.specs.Controls.{Enters, HasLabel}
-use Rattle.fv_eval_drawing.proofs.Labels.{IsFound}
+use Rattle.fv_eval_drawing.proofs.Keys.{IsFound}
 use Rattle.fv_eval_drawing.proofs.lemmas.Entered.{met_alike, numbered_none, numbered_some}
 
 -- a control that was found is found where one more is there
@@ -49,7 +50,11 @@ pub label_comes : (cs : List ControlInfo) (c : ControlInfo) (k : ℕ) → IsFoun
     → HasLabel (cs ++ c ∷ []) c.label k
 label_comes cs c k none n =
     let e = numbered_none cs (labelled 0 cs c.label) none in
-    subst (λ (i : ℕ). HasLabel (cs ++ c ∷ []) c.label i) (sym n) (record { info = c; first = labelled_last 0 cs c e ∙ ap (λ (i : ℕ). Some (i, c)) (omega arith); at = last_place cs c })
+    subst (λ (i : ℕ). HasLabel (cs ++ c ∷ []) c.label i) (sym n) (record {
+      info = c;
+      first = labelled_last 0 cs c e ∙ ap (λ (i : ℕ). Some (i, c)) (omega arith);
+      at = last_place cs c;
+    })
 
 -- a control whose label was found
 pub label_found : (cs : List ControlInfo) (label : List ℕ) (i : ℕ) → IsFound 0 cs (Some i) (labelled 0 cs label) → (r : Result ℕ EvalRefusal)

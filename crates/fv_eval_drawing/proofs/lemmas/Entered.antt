@@ -9,7 +9,7 @@ use Rattle.fv_rules.specs.headline.Steps.{State, control, entered, is_alike, lab
 use Rattle.fv_rules.specs.declared.refusal.EvalRefusal.{EvalRefusal}
 use Rattle.fv_rules.specs.declared.refusal.EvalRefusal.TheVariants.{ControlBounds, ControlClash, NoMemory}
 use Rattle.fv_eval_drawing.specs.Controls.{Enters}
-use Rattle.fv_eval_drawing.proofs.Labels.{IsFound}
+use Rattle.fv_eval_drawing.proofs.Keys.{IsFound}
 
 -- the control that was found
 pub numbered_some : (cs : List ControlInfo) (i : ℕ) (q : Option (ℕ × ControlInfo)) → IsFound 0 cs (Some i) q

@@ -18,7 +18,7 @@ use Rattle.fv_rules.specs.headline.Rules.{all_outputs, fed, flat, from_right, ga
 use Rattle.fv_eval_drawing.specs.declared.lists.Link.TheVariants as link
 use Rattle.fv_eval_drawing.specs.Makes.{AddsDiagrams, AreThere, Becomes, Canvas, Draws, Makes, MakesValue, trees_of}
 use Rattle.fv_eval_drawing.specs.Lists.{Sides, all_from_left, all_from_right, feeding, filled, linked}
-use Rattle.fv_eval_drawing.specs.inner.Wires.{IsWired, side_by_side}
+use Rattle.fv_eval_drawing.specs.Wires.{IsWired, side_by_side}
 use Rattle.fv_eval_drawing.proofs.Arenas.{there_stays, trees_stay}
 use Rattle.fv_eval_drawing.proofs.Operated.{made_then}
 use Rattle.fv_eval_drawing.proofs.Tabling.{becomes_makes}

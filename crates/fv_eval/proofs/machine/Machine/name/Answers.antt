@@ -13,7 +13,7 @@ returns-in-Known c =
     let m = c.args.self.now in
     let n : code_machine.Machine = record m { shortcuts = c.look_up.new.shortcuts } in
     λ x E named e Fs k. known_goes p n c.in-Known.value x (lookup p.tokens E x) Fs
-    (c.in-Known.ensures.means k.0.1 (world p m) x E refl refl named e) ((k.0.0, c.in-Known.ensures.kept k.0.1), k.1)
+    (c.in-Known.ensures.means k.0.1 (world p m) x E refl refl named e) ((k.0.0, c.in-Known.ensures.kept k.0.1, k.0.2), k.1)
 
 pub returns-in-Body : goal.returns-in-Body
 returns-in-Body c =
@@ -21,7 +21,7 @@ returns-in-Body c =
     let m = c.args.self.now in
     let n : code_machine.Machine = record m { shortcuts = c.look_up.new.shortcuts } in
     λ x E named e Fs k. body_goes p n c.in-Body.body c.in-Body.env x (lookup p.tokens E x) Fs
-    (c.in-Body.ensures.means k.0.1 (world p m) x E refl refl named e) ((k.0.0, c.in-Body.ensures.kept k.0.1), k.1)
+    (c.in-Body.ensures.means k.0.1 (world p m) x E refl refl named e) ((k.0.0, c.in-Body.ensures.kept k.0.1, k.0.2), k.1)
 
 pub returns-in_ok-name-in-Unknown : goal.returns-in_ok-name-in-Unknown
 returns-in_ok-name-in-Unknown c =

@@ -56,6 +56,18 @@ returns-in-Slider c =
     slider_begins p c.args.self.now c.slider.new.self c.slider.result id c.args.env (start_in q id) n.field-1 n.field-0
     (tree_in q n.field-2) (tree_in q n.field-3) (tree_in q n.field-4) (tree_in q n.field-5) [] c.requires tree refl c.slider.ensures
 
+pub returns-in-Switch : goal.returns-in-Switch
+returns-in-Switch c =
+    let q = c.tree-tree.result.now in
+    let m = c.args.self.now in
+    let n = c.switch.new.self in
+    let r = c.switch.result in
+    let id = c.args.id in
+    let e = c.args.env in
+    let tree = c.node.ensures.tree ∙ ap (λ (x : TreeNode). node_tree q x (start_in q id)) c.in-Switch.is in
+    subst (λ (x : Parsed). Begins x m n r e (tree_in x id)) c.tree-tree.ensures
+    (subst (Begins q m n r e) (sym tree) (λ E h. c.switch.ensures))
+
 pub returns-in-List : goal.returns-in-List
 returns-in-List c =
     let q = c.tree-tree.result.now in

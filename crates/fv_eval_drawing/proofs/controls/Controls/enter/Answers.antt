@@ -8,7 +8,7 @@ use Rattle.indexmap.specs.IndexSet.{insert_key}
 use Rattle.fv_diagram.specs.declared.control.ControlInfo.{ControlInfo}
 use Rattle.fv_rules.specs.headline.Steps.{is_alike, labelled}
 use Rattle.fv_eval_drawing.specs.Controls.{AreLabels, Enters, HasLabel}
-use Rattle.fv_eval_drawing.proofs.Labels.{IsFound, found, added}
+use Rattle.fv_eval_drawing.proofs.Keys.{IsFound, found, added}
 use Rattle.fv_eval_drawing.proofs.lemmas.Entered.{met_alike, met_unlike, met_none, numbered_inside, get_within}
 use Rattle.fv_eval_drawing.proofs.lemmas.Again.{label_comes, label_found, label_stays}
 use Rattle.fv_eval_drawing.proofs.controls.Controls.enter.Goals.{After-get_index_of}

@@ -1,6 +1,6 @@
 use Rattle.std.proofs.Common.{◌+◌, sym, subst}
 use Rattle.fv_eval_drawing.specs.Makes.{Canvas}
-use Rattle.fv_eval_drawing.specs.inner.Wires.{IsWired}
+use Rattle.fv_eval_drawing.specs.Wires.{IsWired}
 use Rattle.fv_eval_drawing.proofs.Wired.{wider, wider_refused}
 use Rattle.fv_eval_drawing.proofs.diagrams.Drawing.wider.Goals as goal
 
