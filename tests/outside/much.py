@@ -109,6 +109,16 @@ TEXTS = [
     ("large arguments, matched on and on", "d = par(i,8000,_); f((x,y),n) = f((x,y),n+1); process = f(d,0);"),
     ("an abstraction of 8,000 parameters drawn on and on", f"g = \\({XS}).(1); f(n) = f(n+inputs(g)); process = f(0);"),
     ("4,000 wires given one argument, on and on", "f(n,d) = f(n+outputs(d(1)),d); process = f(0,par(i,4000,_));"),
+    ("4,000 wires given one argument, 2,200 times", "process = \\(d).(sum(i,2200,outputs(d(1))))(par(j,4000,_));"),
+    ("a number before a row of 7,000, on and on", "f(0,d)=1; f(n,d)=f((n:d),d); process=f(1,(seq(i,7000,abs)));"),
+    (
+        "a number before a row of 8,180, 100 times a call",
+        "g(" + ",".join(f"x{i}" for i in range(100)) + ")=1; f(n,d)=f(n+g(" + ",".join(["1:d"] * 100) + "),d); process=f(0,seq(i,8180,abs));",
+    ),
+    (
+        "counts that a row of 8,180 gives, on and on",
+        "f(n,d)=f(n+outputs((" + ",".join(["par(i,1:d,1)"] * 100) + ")),d); process=f(0,seq(i,8180,abs));",
+    ),
     ("8,000 names bound by a pattern, on and on", f"k(({XS})) = 1; f(n,d) = f(n+k(d),d); process = f(0,par(i,8000,_));"),
     ("iterations in iterations", "process = par(i,99,par(j,99,par(k,99,i+j+k)));"),
     ("a waveform", filled("process = waveform{", "7", "} : !,_;", ",")),
@@ -119,6 +129,11 @@ TEXTS = [
     ("tables on and on", "f(n) = f(n+outputs(rdtable(8,n,_))); process = f(0);"),
     ("controls", filled("process = ", CONTROL, " :> _;", ",")),
     ("controls, 256 outputs", "process = " + ",".join(CONTROL % i for i in range(256)) + ";"),
+    ("a control with a label of 30,000 bytes, on and on", 'f(n)=f(n+outputs(button("' + "a" * 30_000 + '")));process=f(0);'),
+    (
+        "a control with a label of 1 MB, 12 times a call",
+        'b=button("' + "a" * 1_000_000 + '");f(n)=f(n+outputs((' + ",".join("b" * 12) + ")));process=f(0);",
+    ),
     ("controls in a sum", "process = sum(i,4000," + CONTROL % 0 + ");"),
     ("16,000 controls", "process = " + ",".join(CONTROL % i for i in range(8_000)) + " :> _;"),
     ("one control, again and again", "process = " + ",".join([CONTROL % 1] * 8_000) + " :> _;"),
