@@ -64,8 +64,13 @@ PROGRAMS = [
     checks(2, 2, 0, 39, 22050, "echo(d,g) = + ~ (@(d-1) : *(g) : /(256));\nprocess = par(i,2,echo(11025,128));\n"),
     checks(1, 1, 0, 3, 1, "process = + ~ _;\n"),
     checks(1, 1, 0, 3, 0, "process = rdtable(4, (+(1) ~ _), _);\n"),
-    # An evaluation that would keep more than it may is refused for that, however much memory there is.
-    ends(5, "refused 40 NoMemory", "f(n,d) = f(n+outputs(d(1)),d); process = f(0,par(i,4000,_));", CHECK),
+    # What is made again in an evaluation costs little: wires that fill up an application, a label, the number of a diagram.
+    checks(0, 1, 0, 8797, 0, "process = \\(d).(sum(i,2200,outputs(d(1))))(par(j,4000,_));"),
+    ends(3, "refused 23 EvalBudget", "f(n,d) = f(n+outputs(d(1)),d); process = f(0,par(i,4000,_));", CHECK),
+    ends(3, "refused 23 EvalBudget", 'f(n) = f(n+outputs(button("' + "a" * 30_000 + '"))); process = f(0);', CHECK),
+    ends(3, "refused 23 EvalBudget", "f(0,d) = 1; f(n,d) = f((n:d),d); process = f(1,(seq(i,7000,abs)));", CHECK),
+    # An evaluation that would keep more than it may wants memory, however much there is.
+    ends(5, "refused 40 NoMemory", "f(x,y,z) = f; process = f;", CHECK),
 ]
 
 CONTROLS = [
