@@ -2,7 +2,7 @@
 -- profile). `build ts n` is the tree of node n, where ts are the trees of the nodes before it.
 use Rattle.std.specs.Prelude.{◌≡◌, ℕ, suc, ◌<◌, ◌≤◌, List, [], ◌∷◌, ◌++◌, length, get_or}
 
--- the trees of the nodes, behind the trees of the nodes before them
+-- the trees of the nodes, after the trees of the nodes before them
 abbrev pub trees_from : {N T : Type 0} → (List T → N → T) → List T → List N → List T
 trees_from build ts [] = ts
 trees_from build ts (n ∷ ns) = trees_from build (ts ++ build ts n ∷ []) ns

@@ -17,8 +17,8 @@ pub const SIZE_LIMIT: u32 = 16_384;
 /// How many visits an evaluation may make.
 pub const VISIT_LIMIT: u32 = 1_000_000;
 
-/// How many diagrams an evaluation may keep. A form makes five at most at a visit, but for an abstraction of many parameters as
-/// a diagram and a diagram of many inputs on few arguments, which would take all memory before the visits end.
+/// How many diagrams an evaluation may keep. A form makes at most five at a visit. Two forms may make more: an abstraction of many
+/// parameters as a diagram, and a diagram of many inputs on few arguments. These would take all memory before the visits end.
 pub const MOST_DIAGRAMS: u64 = 8_388_608;
 
 /// How many scopes it may keep, and how many arguments of rules. A visit makes one at most, but for a pattern of many names.

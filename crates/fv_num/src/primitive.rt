@@ -22,7 +22,7 @@ pub enum Primitive {
     Attach,
     /// The operation on its inputs, at each sample.
     Point(Op),
-    /// `rdtable`, which no diagram has that runs: behind a table's size and numbers it becomes a table.
+    /// `rdtable`, which no diagram has that runs: after a table's size and numbers it becomes a table.
     ReadTable,
     /// `rwtable`, likewise.
     WriteTable,

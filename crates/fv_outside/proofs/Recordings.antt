@@ -1,4 +1,4 @@
--- One more block is kept behind those before it, whose pairs and lines stay in their places.
+-- One more block is kept after those before it, whose pairs and lines stay in their places.
 use Rattle.std.proofs.Common.{◌≡◌, ℕ, zero, suc, ◌+◌, ◌-◌, ◌<◌, ◌≤◌, List, [], ◌∷◌, ◌++◌, length, map, take, drop, true, nat_le, refl, sym}
 use Rattle.std.proofs.Common.{ap, ap₂, ◌∙◌, arith, length-append}
 use Rattle.std.specs.Prelude.{slice_range, ◌&&◌}

@@ -27,7 +27,7 @@ nothing_kept = record { reading = None; written = []; room = 0; most = last_coun
 abbrev pub bytes_at : List File → ℕ → List ℕ
 bytes_at files i = (slice_index_or files i (record { name = []; bytes = [] })).bytes
 
--- the bytes that are left behind what was taken
+-- the bytes that are left to read
 abbrev pub left_at : List File → Option Reading → List ℕ
 left_at files None = []
 left_at files (Some r) = drop r.taken (bytes_at files r.file)
@@ -47,6 +47,6 @@ pub record DrawerGoesOn (old new : Kept) : Type 0 where
   pub room : new.room ≡ old.room
   pub failing : new.failing ≡ old.failing
 
--- the drawer reads one of so many files
+-- the drawer reads one of the first n files
 abbrev pub ReadsWithin : ℕ → Kept → Type 0
 ReadsWithin n k = (r : Reading) → k.reading ≡ Some r → r.file < n

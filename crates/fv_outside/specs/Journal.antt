@@ -13,7 +13,7 @@ pub record HasRoom (room : Room) (entry : BlockEntry) : Type 0 where
   pub lines : length entry.lines ≤ room.lines
   pub pairs : length entry.tasks.reads ≤ room.pairs
 
--- what is left of the room behind it
+-- what is left of the room after it
 abbrev pub room_after : Room → BlockEntry → Room
 room_after room entry = record {
   calls = room.calls - 1;

@@ -48,7 +48,7 @@ memory_of m Controls = m.controls
 memory_of m Output = m.output
 memory_of m Report = m.report
 
--- the same, but with this kept for the role
+-- a desk with this kept for the role, and all else as it was
 abbrev pub with_memory : Memory → Role → RoleMemory → Memory
 with_memory m Program d = record m { program = d }
 with_memory m Input d = record m { input = d }
@@ -56,7 +56,7 @@ with_memory m Controls d = record m { controls = d }
 with_memory m Output d = record m { output = d }
 with_memory m Report d = record m { report = d }
 
--- the same, but for what is kept for the role, where f makes the new from the old
+-- a desk where f changes what is kept for the role, and all else is as it was
 abbrev pub memory_after : Memory → Role → (RoleMemory → RoleMemory) → Memory
 memory_after m role f = with_memory m role (f (memory_of m role))
 
@@ -88,11 +88,11 @@ is_failing d = fails_now d.calls d.failing
 abbrev pub is_full : RoleMemory → Bool
 is_full d = nat_le d.room (length d.written)
 
--- so many bytes may be written, or as many as before
+-- at least this many bytes may be written in all
 abbrev pub after_room : ℕ → RoleMemory → RoleMemory
 after_room bytes d = record d { room = max d.room bytes }
 
--- each call moves so many bytes at most
+-- each call moves at most this many bytes
 abbrev pub after_pieces : ℕ → RoleMemory → RoleMemory
 after_pieces size d = record d { most = size }
 

@@ -1,4 +1,4 @@
--- How the gate in memory keeps what it was told: the pairs and lines of all blocks one behind another.
+-- How the gate in memory keeps what it was told: the pairs and lines of all blocks one after another.
 use Rattle.std.specs.Prelude.{ℕ, ◌-◌, ◌≤◌, Bool, List, length, map, All, Option, None, Some, slice_range, if◌then◌else◌}
 use Rattle.fv_outside.specs.declared.tasks.Reads.{Reads}
 use Rattle.fv_outside.specs.declared.gate.Line.{Line}
@@ -20,7 +20,7 @@ told_of tells blocks reads lines most_blocks most_lines =
       room = record { calls = most_blocks - length blocks; lines = most_lines - length lines; pairs = most_lines - length reads };
     }) else None
 
--- the block's pairs and lines are among so many
+-- the block's pairs and lines are among the first ones of these numbers
 pub record IsAmong (reads lines : ℕ) (block : KeptBlock) : Type 0 where
   pub reads_rise : block.reads.start ≤ block.reads.end
   pub reads_end : block.reads.end ≤ reads

@@ -11,7 +11,7 @@ use fv_base::Role;
 pub struct Counts {
     /// Stops at the last value.
     pub faults: [u64; 5],
-    /// Begins again at 0 behind the last value.
+    /// Begins again at 0 after the last value.
     pub begins: [u64; 5],
 }
 

@@ -58,16 +58,24 @@ pub struct Reading {
     pub taken: usize,
 }
 
-/// What is kept of one role.
+/// What a desk in memory keeps of one role.
 #[derive(Drop)]
 pub struct Drawer {
+    // The file that the role reads, and how far. None before the first read was begun.
     reading: Option<Reading>,
+    // The bytes written since the last time that a write was begun.
     written: Vec<u8>,
+    // How many bytes may stand in `written`. Its memory is taken already.
     room: u32,
+    // The most bytes that one call reads or writes, at least 1.
     most: u64,
+    // How many calls were made. It stays at its type's end.
     calls: u64,
+    // The numbers of the calls that fail, as `calls` counts them from 0 on.
     failing: Vec<u32>,
+    // How many calls failed. It stays at its type's end.
     faults: u64,
+    // How often a write was begun, modulo 2 to the power 64.
     begins: u64,
 }
 
@@ -116,7 +124,7 @@ impl Drawer {
         &self.written
     }
 
-    /// Makes room for so many bytes, where there is less.
+    /// Makes room for `bytes` bytes in all, where there is less.
     pub fn widen(&mut self, bytes: u32) -> Result<(), AllocError>
         ensures ok { OnOk result (self.new ≡ record self.old { room = max self.old.room bytes }) }
         ensures err { OnErr result (self.new ≡ self.old) }
@@ -129,7 +137,7 @@ impl Drawer {
         Ok(())
     }
 
-    /// From now on each call moves so many bytes at most.
+    /// Sets the most bytes that each call moves from now on.
     pub fn pieces(&mut self, size: u32)
         requires { 1 ≤ size }
         ensures ok { self.new ≡ record self.old { most = size } }
@@ -138,7 +146,7 @@ impl Drawer {
         self.most = u64::from(size);
     }
 
-    /// The call of this number will fail.
+    /// Lets the call of this number fail. The first call has number 0.
     pub fn fail(&mut self, call: u32) -> Result<(), AllocError>
         ensures ok { OnOk result (self.new ≡ record self.old { failing = self.old.failing ++ call ∷ [] }) }
         ensures err { OnErr result (self.new ≡ self.old) }
@@ -264,7 +272,7 @@ fn bytes_of(files: &[StoredFile], place: usize) -> &[u8]
     }
 }
 
-// Copies as many bytes as fit into `to`, but so many at most, behind those that were taken, and says how many.
+// Copies the bytes after the first `taken` into `to`, as many as fit but at most `most`, and returns how many.
 fn take_from(bytes: &[u8], taken: usize, most: u64, to: &mut [u8]) -> usize
     ensures count { result ≡ min most (min (length to.new) (length bytes.now - taken)) }
     ensures fits { taken + result < 2 ^ 64 }

@@ -180,18 +180,23 @@ impl<R: Files + Print> Desk for FileDesk<'_, R> {
     }
 }
 
-// The files that are open, of each role.
+// The files that are open of each role.
 #[derive(Drop)]
 struct OpenFiles<F> {
+    // The files of Program: the text of a program or of a rack.
     program: OpenPair<F>,
+    // The files of Input: the sound file that a run hears.
     input: OpenPair<F>,
+    // The files of Controls: the script.
     controls: OpenPair<F>,
+    // The files of Output: the sound file that a run says.
     output: OpenPair<F>,
+    // The files of Report. None is open to write, since it goes to standard output.
     report: OpenPair<F>,
 }
 
 impl<F> OpenFiles<F> {
-    // Those of one role.
+    // The files of one role.
     fn of(&mut self, role: Role) -> &mut OpenPair<F> {
         match role {
             Role::Program => &mut self.program,

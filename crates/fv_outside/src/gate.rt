@@ -23,8 +23,8 @@ pub trait Gate {
     /// The worker is about to run the task. Called once for each task.
     fn at(&self, worker: u32, task: Task);
 
-    /// A block is done. It is told how many loops ran over how many vectors, which loop reads from which, and one line for
-    /// each task that ran, the earliest first.
+    /// Tells that a block is done: how many loops ran over how many vectors, and which loop reads from which. `lines` has one line
+    /// for each task that ran, the earliest first.
     fn block_done(&mut self, loops: u64, vectors: u32, reads: &[Reads], lines: &[Line])
         // Where the entry is within the room, it is still told afterwards.
         ensures within { IfSome (told self.old) (λ t.

@@ -72,7 +72,7 @@ impl MemoryDesk {
         Ok(())
     }
 
-    /// From now on so many bytes may be written of the role, or as many as before where that is more.
+    /// Makes room for `bytes` bytes of the role in all, where there is less.
     pub fn room(&mut self, role: Role, bytes: u32) -> Result<(), AllocError>
         ensures ok { OnOk result (self.new ≡ memory_after self.old role (after_room bytes)) }
         ensures err { OnErr result (self.new ≡ self.old) }
@@ -80,7 +80,7 @@ impl MemoryDesk {
         self.drawers[place_of(role)].widen(bytes)
     }
 
-    /// From now on each `read` and `write` of the role moves so many bytes at most.
+    /// Sets the most bytes that each `read` and `write` of the role moves from now on.
     pub fn pieces(&mut self, role: Role, size: u32)
         requires { 1 ≤ size }
         ensures { self.new ≡ memory_after self.old role (after_pieces size) }

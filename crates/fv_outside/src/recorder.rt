@@ -11,15 +11,21 @@ use std::marker::Model;
 /// A gate that keeps what it is told, until one more block, line or pair does not fit; from then on it tells nothing.
 #[derive(Drop)]
 pub struct Recorder {
+    // The blocks that it was told of, in order.
     blocks: Vec<KeptBlock>,
+    // Which loop reads from which: the pairs of all blocks, one block after another.
     reads: Vec<Reads>,
+    // The lines of the journals of all blocks, one block after another.
     lines: Vec<Line>,
+    // The most blocks that fit.
     most_blocks: u32,
+    // The most lines that fit over all blocks, and the most pairs.
     most_lines: u32,
+    // Whether all that it was told fitted so far. Where not, it tells nothing.
     tells: bool,
 }
 
-/// What is kept of a block: its numbers, and where its pairs and lines stand among those of all blocks.
+/// What is kept of a block: its numbers of loops and of vectors, and where its pairs and lines stand among those of all blocks.
 #[derive(Clone, Copy)]
 pub struct KeptBlock {
     loops: u64,
@@ -28,7 +34,7 @@ pub struct KeptBlock {
     lines: Part,
 }
 
-/// From one place up to another.
+/// A range of indices, with an exclusive end.
 #[derive(Clone, Copy)]
 pub struct Part {
     start: usize,
@@ -54,7 +60,7 @@ impl Model for Recorder {
 impl Recorder {
     ghost use Rattle.std.specs.Prelude.{Some};
 
-    /// Keeps up to so many blocks, with up to so many lines and so many pairs over all of them.
+    /// A gate with room for `blocks` blocks, and for `lines` lines and `lines` pairs over all of them.
     pub fn new(alloc: Global, blocks: u32, lines: u32) -> Result<Recorder, AllocError>
         ensures { IfOk result (λ r. r ≡ Some (record { entries = []; room = record { calls = blocks; lines = lines; pairs = lines } })) }
     {
@@ -144,7 +150,7 @@ impl Gate for Recorder {
     }
 }
 
-// The last places, so many, of so many.
+// The last `count` of the first `end` places.
 fn part_behind(end: usize, count: usize) -> Part
     requires { count ≤ end }
     ensures { (result.start + count ≡ end) × (result.end ≡ end) }

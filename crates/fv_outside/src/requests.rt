@@ -35,7 +35,7 @@ impl Requests {
         Requests {}
     }
 
-    /// And then for this.
+    /// These requests, and this one after them.
     pub fn and(&self, _request: &Request<'_>) -> Requests
         ensures { result.list ≡ self.now.list ++ request_of _request.now ∷ [] }
     {

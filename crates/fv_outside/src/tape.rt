@@ -11,7 +11,7 @@ pub trait Tape<W> {
     /// How many samples a frame has that is heard.
     ghost ears: { Self → ℕ };
 
-    /// And one that is said.
+    /// How many samples a frame has that is said.
     ghost mouth: { Self → ℕ };
 
     /// The most frames that may be heard or said at once.
@@ -30,7 +30,7 @@ pub trait Tape<W> {
     /// at first.
     ghost Went: { (first tape : Self) (start now : W) → (heard said : List ℤ) → Type 0 };
 
-    /// It stopped behind them, when it was asked for this, for this reason.
+    /// It stopped after these samples, when it was asked for this, for this reason.
     ghost Stopped: { (first tape : Self) (start now : W) → (heard said : List ℤ) → Act → Self.Stop → Type 0 };
 
     /// Begins: comes before all that is heard and said.
@@ -45,7 +45,7 @@ pub trait Tape<W> {
         ensures ok { OnOk result (Went self.old self.new world.old world.new [] []) }
         ensures err { IfErr result (Stopped self.old self.new world.old world.new [] [] Beginning) };
 
-    /// Hears so many frames more, one after another.
+    /// Hears the next `frames` frames. `to` gets their samples, interleaved by channel.
     fn hear(&mut self, world: &mut W, frames: u32, to: &mut [i32]) -> Result<(), Self::Stop>
         requires valid { is_valid self.old }
         requires few { frames ≤ most self.old }
@@ -61,7 +61,7 @@ pub trait Tape<W> {
         ensures err { IfErr result (λ e. (first : Self) (start : W) (h s : List ℤ) → Went first self.old start world.old h s
             → Stopped first self.new start world.new h s (Hearing frames) e) };
 
-    /// Says so many frames more.
+    /// Says `frames` frames more. `samples` are interleaved by channel.
     fn say(&mut self, world: &mut W, frames: u32, samples: &[i32]) -> Result<(), Self::Stop>
         requires valid { is_valid self.old }
         requires few { frames ≤ most self.old }

@@ -124,7 +124,7 @@ fn skip_part<D: Desk>(desk: &mut D, role: Role, piece: &mut [u8], most: u64) -> 
 /// The most bytes that are read at once into memory.
 const CHUNK: usize = 65536;
 
-/// Reads the next bytes of a role: so many, or as many as are left.
+/// Reads the next `count` bytes of a role, or as many as are left.
 #[tactic(auto, using(crate::proofs::lemmas::States::steps))]
 pub fn read_up_to<D: Desk>(
     alloc: Global,

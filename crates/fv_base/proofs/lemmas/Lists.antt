@@ -29,7 +29,7 @@ same_back xs ys us vs l e = sym (drop_at xs us (length xs) refl) ∙ ap (drop (l
 pub same_length : {A : Type 0} (xs ys us vs : List A) → length us ≡ length vs → xs ++ us ≡ ys ++ vs → length xs ≡ length ys
 same_length xs ys us vs l e = omega (arith, length-append xs us, length-append ys vs, ap length e)
 
--- the item at a place, and what is behind it
+-- the item at a place, and what follows it
 pub drop_step : {A : Type 0} (xs : List A) (i : ℕ) (d : A) → i < length xs → drop i xs ≡ get_or xs i d ∷ drop (i + 1) xs
 drop_step xs i d h = rw (add-one, drop-cons xs i d) refl
 

@@ -10,7 +10,7 @@ is_digit b = nat_le 48 b && nat_le b 57
 abbrev pub is_decimal : List ℕ → Bool
 is_decimal ds = nat_le 1 (length ds) && nat_le (length ds) 10 && list_all is_digit ds
 
--- the number that digits write behind this one
+-- the number that digits write after this one
 abbrev pub decimal_after : ℕ → List ℕ → ℕ
 decimal_after n [] = n
 decimal_after n (d ∷ ds) = decimal_after (n * 10 + (d - 48)) ds

@@ -11,6 +11,6 @@ abbrev pub table : {A : Type 0} → ℕ → (ℕ → A) → List A
 table zero f = []
 table (suc n) f = table n f ++ f n ∷ []
 
--- number i of a list of numbers, 0 behind its end
+-- number i of a list of numbers, 0 past its end
 abbrev pub at : List ℕ → ℕ → ℕ
 at xs i = slice_index_or xs i 0

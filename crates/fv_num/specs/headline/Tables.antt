@@ -19,7 +19,7 @@ abbrev pub last_written : List ℤ → (w x : Stream) → ℕ → ℕ → ℤ
 last_written T w x i zero = if nat_eq (place (length T) (w 0)) i then x 0 else argument T i
 last_written T w x i (suc t) = if nat_eq (place (length T) (w (suc t))) i then x (suc t) else last_written T w x i t
 
--- the same, by an index
+-- what the list has at the index r at time t, where at each time x is written at the index w
 abbrev pub written_at : List ℤ → (w x : Stream) → ℕ → ℤ → ℤ
 written_at T w x t r = last_written T w x (place (length T) r) t
 
@@ -27,7 +27,7 @@ written_at T w x t r = last_written T w x (place (length T) r) t
 abbrev pub written : List ℤ → ℤ → ℤ → List ℤ
 written T w x = slice_set T (place (length T) w) x
 
--- the list after so many times, at each of which a number is written
+-- the list as it is before time t, where at each time x is written at the index w
 abbrev pub after : List ℤ → (w x : Stream) → ℕ → List ℤ
 after T w x zero = T
 after T w x (suc t) = written (after T w x t) (w t) (x t)

@@ -11,7 +11,7 @@ Meaning S = (v : ℕ → Stream) → S → ℕ → ℤ
 abbrev pub at_time : ℕ → (past : ℕ → Stream) → (now : List ℤ) → ℕ → Stream
 at_time t past now w u = if nat_eq u t then argument now w else past w u
 
--- the numbers of the steps at time t, one after another, behind the numbers now of the steps before them
+-- The numbers of a list of steps at time t, one after another. The steps before it have the numbers now. They come first.
 abbrev pub numbers : {S : Type 0} → Meaning S → ℕ → (past : ℕ → Stream) → (now : List ℤ) → List S → List ℤ
 numbers f t past now [] = now
 numbers f t past now (s ∷ ss) = numbers f t past (now ++ f (at_time t past now) s t ∷ []) ss

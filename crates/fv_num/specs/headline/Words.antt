@@ -95,11 +95,11 @@ apply_of Select3 x = select3 (argument x 0) (argument x 1) (argument x 2) (argum
 abbrev pub is_sample_width : ℕ → Bool
 is_sample_width bits = bits == 8 || bits == 16 || bits == 24 || bits == 32
 
--- the least number of so many bits, in two's complement
+-- the least number of this many bits, in two's complement
 abbrev pub least : ℕ → ℤ
 least bits = neg_ℤ (pos (2 ^ (bits - 1)))
 
--- and the greatest
+-- the greatest number of this many bits, in two's complement
 abbrev pub greatest : ℕ → ℤ
 greatest bits = pos (2 ^ (bits - 1) - 1)
 

@@ -175,7 +175,7 @@ part_front xs ys a n k h m =
     take-add a n (put_mid a k xs ys) ∙ ap (λ w. w ++ take n (drop a (put_mid a k xs ys))) front ∙ ap (λ w. take a xs ++ take n w) back
     ∙ ap (λ w. take a xs ++ w) (take-append-le n ys (post_of a k xs) m)
 
--- what is a part from the front of one piece is, behind the pieces before it, a part from the front of all of them
+-- what is a part from the front of one piece is, after the pieces before it, a part from the front of all of them
 pub joined_part : (pieces : List (Bor (List ℕ))) (i : ℕ) (d : Bor (List ℕ)) (part : List ℕ) → i < length pieces
     → IsPrefixOf part (get_or pieces i d).now → IsPrefixOf (joined (take i pieces) ++ part) (joined pieces)
 joined_part [] i d part h p = absurd (omega arith)

@@ -44,8 +44,8 @@ pub record DeskState : Type 0 where
   -- the reference to another desk that it holds, if it stands over one
   pub beneath : Option GName
 
--- No call changes whether it tells, what it stands over, its files, its room or what will fail, and no count of calls or faults
--- falls.
+-- A call leaves as they are: whether the desk tells, what it stands over, its files, its room and what will fail. No count of calls
+-- or faults falls.
 pub record GoesOn (old new : DeskState) : Type 0 where
   pub tells : new.tells ≡ old.tells
   pub beneath : new.beneath ≡ old.beneath

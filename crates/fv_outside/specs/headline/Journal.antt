@@ -28,12 +28,12 @@ is_line_of t line = (line.task.loop_no == t.loop_no) && (line.task.vector == t.v
 abbrev pub stamped : ℕ → List Line → ℕ
 stamped n lines = total (λ line. bit (line.start == n) + bit (line.finish == n)) lines
 
--- each start is less than those behind it
+-- each start is less than those after it
 abbrev pub StartsRise : List Line → Type 0
 StartsRise lines = AllPairs (λ a b. a.start < b.start) lines
 
--- The journal of a block: one line for each task and no other, the stamps from 0 on, of which none stands twice, each start before its
--- finish, each task after all that it reads, and the lines in the order of their starts.
+-- The journal of a block: one line for each task and no other, in the order of their starts. The stamps count from 0 on, and none
+-- stands twice. Each start is before its finish, and each task after all that it reads.
 pub record IsOrdered (tasks : Tasks) (lines : List Line) : Type 0 where
   pub each_once : (t : Task) → t.loop_no < tasks.loops → t.vector < tasks.vectors → total (λ line. bit (is_line_of t line)) lines ≡ 1
   pub no_other : (line : Line) → Contains lines line → (line.task.loop_no < tasks.loops) × (line.task.vector < tasks.vectors)
