@@ -27,7 +27,7 @@ fn pass<D: Desk>(desk: &mut D, count: u64) -> Result<u64, Failed> {
     skip(desk, Role::Input, count)
 }
 
-// The next bytes, at most so many.
+// The next bytes, at most `count`.
 fn next<D: Desk>(alloc: Global, desk: &mut D, count: usize) -> Result<Vec<u8>, ReadError> {
     read_up_to(alloc, desk, Role::Input, count)
 }

@@ -18,6 +18,6 @@ HasRefusal text refusal = Has text (Err refusal)
 abbrev pub HasAtMostOne : Type 0
 HasAtMostOne = (text : List ℕ) (a b : Result Lexed LexRefusal) → Has text a → Has text b → a ≡ b
 
--- And it has one.
+-- Each text has one: a list of tokens, or a refusal.
 abbrev pub HasAtLeastOne : Type 0
 HasAtLeastOne = (text : List ℕ) → (answer : Result Lexed LexRefusal) × Has text answer

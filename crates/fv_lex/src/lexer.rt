@@ -18,7 +18,7 @@ use fv_base::Role;
 use fv_base::limits::{DEEPEST_NESTING, LONGEST_TEXT};
 use std::alloc::Global;
 
-/// The place behind some bytes that begin at a place.
+/// The place after some bytes that begin at a place.
 fn place_after(place: Place, bytes: &[u8]) -> Place
     requires { (place.line + length bytes.now < 2 ^ 32) × (place.column + length bytes.now < 2 ^ 32) }
     ensures is { result ≡ place_after place bytes.now }
@@ -43,7 +43,7 @@ fn place_after(place: Place, bytes: &[u8]) -> Place
     here
 }
 
-/// How many brackets are open behind a piece.
+/// How many brackets are open after a piece.
 fn depth_after(depth: u32, bytes: &[u8]) -> u32
     requires { depth ≤ DEEPEST_NESTING }
     ensures { result ≡ depth_after depth bytes.now }
@@ -132,7 +132,7 @@ pub fn tokens<'a>(alloc: Global, text: &'a [u8]) -> Result<Tokens<'a>, LexRefusa
     ensures tokens { IfOk result (HasTokens text.now) }
     ensures refusal { IfErr result (λ e. (e ≡ NoMemory) ⊎ HasRefusal text.now e) }
 
-    // And what the text has is the answer, where memory lasts.
+    // What the text has is the answer, where memory lasts.
     ensures only { (answer : Result Lexed LexRefusal) → Has text.now answer → (result ≡ answer) ⊎ (result ≡ Err NoMemory) }
 {
     if text.len() > LONGEST_TEXT {

@@ -18,13 +18,13 @@ use fv_base::is_digit;
 #[derive(Clone, Copy, PartialEq, Eq, Debug)]
 pub(crate) enum Next {
     End,
-    /// A piece of so many bytes: a token of a kind, or a blank byte or a comment, of no kind.
+    /// A piece, with its number of bytes: a token of a kind, or a blank byte or a comment, of no kind.
     Found(usize, Option<Kind>),
     Refused(Fault),
 }
 
-/// How many `_` stand at the front, if no letter follows them, and otherwise 0.
-/// That `bare` of them do may be known already, so that a long run is read once.
+/// How many `_` stand at the front, if no letter follows them, and 0 otherwise.
+/// A `bare` above 0 is that number, known already, so that a long run is read once.
 pub(crate) fn bare_underscores(text: &[u8], bare: usize) -> usize
     requires { IsBare bare text.now }
     ensures { result ≡ bare_underscores text.now }
@@ -36,7 +36,7 @@ pub(crate) fn bare_underscores(text: &[u8], bare: usize) -> usize
     if begins_with_letter(&text[n..]) { 0 } else { n }
 }
 
-/// The first piece of a text, at the front of which so many `_` stand that no letter follows.
+/// The first piece of a text. `bare` is how many `_` stand at its front that no letter follows.
 pub(crate) fn next_piece(text: &[u8], bare: usize) -> Next
     requires { bare ≡ bare_underscores text.now }
     ensures { result ≡ next_piece text.now }

@@ -172,7 +172,7 @@ impl Tokens<'_> {
         self.symbols.as_slice()
     }
 
-    /// The place behind the last byte of the text.
+    /// The place after the last byte of the text.
     pub fn end(&self) -> Place
         ensures { result ≡ self.now.end }
     {

@@ -20,11 +20,11 @@ pub record HasTree (l : Lexed) (p : Parsed) : Type 0 where
 abbrev pub IsOneRefusal : Type 0
 IsOneRefusal = (l : Lexed) (a b : ParseRefusal) → HasRefusal l a → HasRefusal l b → a ≡ b
 
--- And none where they are accepted.
+-- Tokens that are accepted have no refusal.
 abbrev pub IsNotBoth : Type 0
 IsNotBoth = (l : Lexed) (x : Spelled) (refusal : ParseRefusal) → IsAccepted l x → HasRefusal l refusal → ⊥
 
--- And one of the two they have.
+-- The tokens of a text are accepted, or have a refusal.
 abbrev pub IsOneOrOther : Type 0
 IsOneOrOther = (text : List ℕ) (l : Lexed) → HasTokens text l → ((x : Spelled) × IsAccepted l x) ⊎ ((refusal : ParseRefusal) × HasRefusal l refusal)
 

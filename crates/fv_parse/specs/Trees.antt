@@ -43,7 +43,7 @@ first_with (t ∷ ts) text = if bytes_eq t text then 0 else suc (first_with ts t
 abbrev pub first_named : Lexed → ℕ → ℕ
 first_named l n = first_with (texts_of l.tokens) (text_of l n)
 
--- the canonical numbers of the tokens, and behind them that of no bytes (this project's profile)
+-- the canonical numbers of the tokens, and after them that of no bytes (this project's profile)
 abbrev pub canonical_of : Lexed → List ℕ
 canonical_of l = map (first_with (texts_of l.tokens)) (texts_of l.tokens ++ [] ∷ [])
 

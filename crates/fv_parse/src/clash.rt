@@ -62,7 +62,7 @@ pub(crate) fn earlier(a: Option<StaticError>, b: Option<StaticError>) -> Option<
     }
 }
 
-/// A definition, behind the first one of its name, which has so many patterns.
+/// The error of a definition whose name stood before. The first definition of that name has `width` patterns.
 fn clash(among: Among, defined: Defined, width: u64) -> Option<StaticError>
     ensures { result ≡ clash among defined width }
 {

@@ -12,7 +12,7 @@ use fv_lex::Tokens;
 use fv_parse_tree::{TreeId, TreeNode};
 use std::alloc::{AllocError, Global};
 
-/// A definition: the number of its name's token, and how many patterns stand behind it.
+/// A definition: the number of its name's token, and how many patterns follow it.
 #[derive(Clone, Copy, Debug)]
 pub(crate) struct Defined {
     pub(crate) name: u64,

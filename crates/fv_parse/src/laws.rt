@@ -11,6 +11,7 @@ pub fn one_outcome()
     ensures apart { IsNotBoth }
     ensures either { IsOneOrOther }
 {
+    // For the prover: the descent reads just what is spelled, tokens spell one program, and it stops at the one place of an error.
     reads_what_is_spelled();
     spelled_once();
     stops_at_the_place();

@@ -7,7 +7,7 @@ use fv_lex::Tokens;
 use std::alloc::{AllocError, Global};
 use std::collections::BTreeMap;
 
-/// The canonical number of each token, which is that of the first one with its bytes, and behind them that of no bytes.
+/// The canonical number of each token, which is that of the first one with its bytes, and after them that of no bytes.
 pub(crate) fn canonical_numbers(alloc: Global, tokens: &Tokens) -> Result<Vec<u64>, AllocError>
     ensures { IfOk result (λ v. v.items ≡ canonical_of tokens.now) }
 {

@@ -17,7 +17,7 @@ pub struct Tree<'a> {
     pub(crate) tokens: &'a Tokens<'a>,
     pub(crate) entries: Vec<Entry>,
     pub(crate) root: TreeId,
-    /// The canonical number of each token, and behind them that of no bytes.
+    /// The canonical number of each token, and after them that of no bytes.
     pub(crate) names: Vec<u64>,
 }
 
@@ -144,7 +144,7 @@ impl Tree<'_> {
     }
 }
 
-/// The place from which there are so many tokens.
+/// The place from which there are `start` tokens to the end of the text.
 pub(crate) fn place_from(tokens: &Tokens, start: u64) -> Place
     ensures { result ≡ place_from tokens.now start }
 {

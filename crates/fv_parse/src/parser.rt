@@ -69,10 +69,9 @@ fn answer<'a>(alloc: Global, tokens: &'a Tokens<'a>) -> Result<Tree<'a>, ParseRe
     }
 }
 
-/// The one tree that the tokens spell.
-/// An unsupported token is refused first, then tokens that spell no tree: at the place before which they begin a program, and
-/// with whose token none does. Of a tree the first in the text is refused of a name that is redefined, one that is repeated,
-/// and a rule of another width; then that it has no `process`.
+/// The one tree that the tokens spell. An unsupported token is refused first. Then tokens that spell no tree are refused, at the
+/// first token with which they begin no program. Then the first static error in the text is refused: a name that is redefined, a
+/// name that is repeated, or a rule of another width. A missing `process` is refused last.
 pub fn parse<'a>(alloc: Global, tokens: &'a Tokens<'a>) -> Result<Tree<'a>, ParseRefusal>
     // A tree that is answered is the one that the tokens spell.
     ensures tree { IfOk result (HasTree tokens.now) }

@@ -11,7 +11,7 @@ use std::alloc::{AllocError, Global};
 /// The byte that no label of a control has.
 const PERCENT: u8 = b'%';
 
-/// Whether a label stands behind this word.
+/// Whether a label stands after this word.
 fn is_control(symbol: Symbol) -> bool
     ensures { result ≡ is_control symbol }
 {

@@ -12,14 +12,14 @@ use Rattle.fv_parse_grammar.specs.declared.symbol.Operands.{Operands}
 use Rattle.fv_parse_grammar.specs.declared.symbol.Commas.{Commas}
 use Rattle.fv_parse_grammar.specs.declared.symbol.Operands.TheVariants as operands
 
--- the token, what stands behind it in the one and in the other, and how many brackets may be open at once
+-- the token, what follows it in the one and in the other, and how many brackets may be open at once
 pub record Fork : Type 0 where
   pub limit : ℕ
   pub token : Symbol
   pub one : List Symbol
   pub other : List Symbol
 
--- Both are at one place, at the token or before it, with so many brackets open; or the one is past the token.
+-- Both are at one place, at the token or before it, with N brackets open; or the one is past the token.
 pub data Same (k : Fork) (d : ℕ) : List Symbol → List Symbol → Type 0 where
   abreast : (p : List Symbol) → d ≤ k.limit → Nests k.limit d p → Same k d (p ++ k.token ∷ k.one) (p ++ k.token ∷ k.other)
   past : {ts us : List Symbol} → length ts ≤ length k.one → Same k d ts us
@@ -73,7 +73,7 @@ pub next_within : {k : Fork} {d e : ℕ}
     → Agrees k e out ts (r >>= f) (s >>= g)
 next_within {ts = ts} {r = r} {s = s} a h = of_more (next_by ts r s a.fewer a.alike h) a.fewer
 
--- one reader behind the other
+-- one reader after the other
 pub also : {k : Fork} {d e : ℕ}
     {A B : Type 0} {from : A → List Symbol} {out : B → List Symbol} {ts : List Symbol} {r s : Result A (List Symbol)} {f g : A → Result B (List Symbol)}
     → Agrees k d from ts r s → ((x y : A) → Same k d (from x) (from y) → Agrees k e out (from x) (f x) (g y)) → Agrees k e out ts (r >>= f) (s >>= g)
@@ -104,7 +104,7 @@ pub of_equal : {k : Fork} {d : ℕ} {A : Type 0} {out : A → List Symbol} {ts :
 of_equal {k = k} {d = d} {out = out} {ts = ts} {r = r} {v = v} p q a = subst (λ z. Agrees k d out ts z v) (sym p) (subst (λ z. Agrees k d out ts r z) (sym q) a)
 
 -- ---- what begins a loop again
--- the one's tokens are as many more than the other's as what stands behind the token
+-- the one's tokens are as many more than the other's as what follows the token
 apart : {k : Fork} {d : ℕ} {ts us : List Symbol} → Same k d ts us → (length ts ≤ length k.one) ⊎ (length ts + length k.other ≡ length us + length k.one)
 apart (abreast p low n) = inr (simp length-append (omega arith))
 apart (past le) = inl le
@@ -115,7 +115,7 @@ apart_after (both_on same) = apart same
 apart_after (both_stopped p) = inr (simp length-append (omega arith))
 apart_after (beyond le) = inl le
 
--- Two loops that are one reader behind the other, as long as that reader leaves no more tokens than it is given.
+-- Two loops that are one reader after the other, as long as that reader leaves no more tokens than it is given.
 pub unrolled : {k : Fork} {d e c : ℕ} {A B : Type 0} {from : A → List Symbol}
     {out : B → List Symbol} {ts us : List Symbol} {r s : Result A (List Symbol)} (f g : A → Result B (List Symbol)) {v w : Result B (List Symbol)}
     → Same k d ts us → Agrees k e from ts r s
@@ -137,7 +137,7 @@ unrolled {k = k} {c = c} {from = from} {out = out} {ts = ts} {us = us} {r = r} {
     ]
 
 -- ---- by the first token
--- A token is passed, and so many brackets are open behind it.
+-- A token is passed, and N brackets are open after it.
 pub record Passing (k : Fork) (d m : ℕ) (t : Symbol) : Type 0 where
   pub passed : (p : List Symbol) → d ≤ k.limit → Nests k.limit d (t ∷ p) → (m ≤ k.limit) × Nests k.limit m p
 
@@ -166,7 +166,7 @@ look_past : {k : Fork} {d e : ℕ} {A : Type 0} {out : A → List Symbol} {t : S
 look_past low (takes m step h) = of_more (h (past (omega arith))) (omega arith)
 look_past low (stays_at h) = h (past low)
 
--- Readers that look at the first token, in lists of at most so many.
+-- Readers that look at the first token, in lists of at most N.
 pub looked_among : (n : ℕ) {k : Fork} {d e : ℕ} {A : Type 0} {out : A → List Symbol} (f g : List Symbol → Result A (List Symbol)) → remains out (f []) ≡ []
     → ((t : Symbol) (ts us : List Symbol) → length (t ∷ ts) ≤ n → Looks k d e out t ts us (f (t ∷ ts)) (g (t ∷ us)))
     → {ts us : List Symbol} → length ts ≤ n → Same k d ts us → Agrees k e out ts (f ts) (g us)

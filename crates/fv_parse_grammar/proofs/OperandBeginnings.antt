@@ -1,4 +1,4 @@
--- What begins an operand, by its first token, and what stands behind it.
+-- What begins an operand, by its first token, and what follows it.
 use Rattle.std.proofs.Common.{◌≡◌, ℕ, List, [], ◌∷◌, Ok, refl, sym, subst}
 use Rattle.fv_parse_grammar.specs.Symbol.{Symbol}
 use Rattle.fv_parse_grammar.specs.Symbol.TheVariants.{Name, Integer, Comma, Open, Close, OpenBrace, CloseBrace, Dot}
@@ -25,7 +25,7 @@ use Rattle.fv_parse_grammar.proofs.Pieces.{expect_passes, a_name_reads, a_text_r
 use Rattle.fv_parse_grammar.proofs.Pieces.{name_list_reads, ReadsInside, enclosed_reads, argument_reads}
 
 -- ---- the forms that a first token begins
--- behind a token
+-- after a token
 pub headed : {p : Plan} (t : Symbol) (ts : List Symbol) {r : Step Tree} → Reads p ts r → Reads (Then (Sign t) p) (t ∷ ts) r
 headed t ts f = behind (Sign t) (one_taken t ts) f
 

@@ -51,7 +51,7 @@ module _ (inner : Reader) (reads : ReadsInside inner) where
       (λ x s. run_reads APostfix ts (postfix_turn inner (length ts)) (postfix_turns (length ts) ts) x.0 x.1 s)
 
 -- ---- patterns
--- a sign, and no number behind it
+-- a sign, and no number after it
 sign_alone : (t : Symbol) (ts : List Symbol) → ((tail : List Symbol) → Spelled Atom (t ∷ Integer 0 ∷ tail) tail) → Reads {A = Tree} AnAtom (t ∷ ts) (Err ts)
 sign_alone t ts f = stuck (record { used = t ∷ []; whole = refl; completed = λ tail. (Integer 0 ∷ tail, f tail) })
 

@@ -28,11 +28,11 @@ run_turn : (body : Tree → List Symbol → Turn) (x : Tree) (all : List Symbol)
 run_turn body x all (Ok z) f e fewer = run_next body x all (f z.0) z.1 e fewer
 run_turn body x all (Err at) f e fewer = run_stop body x all at e
 
--- two loops agree on lists that are shorter than so many
+-- two loops agree on lists that are shorter than N
 abbrev TurnsAgree : Fork → ℕ → (Tree → List Symbol → Turn) → (Tree → List Symbol → Turn) → ℕ → Type 0
 TurnsAgree k d body body' n = (x y : Tree) (ts us : List Symbol) → length ts < n → Same k d ts us → BothRead k d ts (run body x ts) (run body' y us)
 
--- a turn behind a token
+-- a turn after a token
 turn_both : {k : Fork} {m d : ℕ}
     (n : ℕ) (body body' : Tree → List Symbol → Turn) (x y : Tree) (t : Symbol) (ts us : List Symbol) (r s : Step Tree) (f g : Tree → Tree)
     → TurnsAgree k d body body' n → length (t ∷ ts) ≤ n → body x (t ∷ ts) ≡ turn r f → body' y (t ∷ us) ≡ turn s g → Same k m ts us → BothRead k d ts r s
@@ -131,7 +131,7 @@ left_look {part = part} {part' = part'} parts kind comma h small start start' n 
     (λ off. stays_at (λ s. of_equal (run_done (left_turn part kind comma (suc (suc h)) start) x (t ∷ ts) (rw off refl))
     (run_done (left_turn part' kind comma (suc (suc h)) start') y (t ∷ us) (rw off refl)) (given s)))
 
--- to the right: an operator behind a part, and what follows it
+-- to the right: an operator after a part, and what follows it
 abbrev behind_part : (List Symbol → Step Tree) → Operands → Commas → ℕ → List Symbol → Tree → List Symbol → Step Tree
 behind_part part kind comma r all x at = cond (nat_eq (power_at kind comma at) r) (joined all at x (chain part kind comma r (drop 1 at))) (Ok (x, at))
 

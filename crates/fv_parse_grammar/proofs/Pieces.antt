@@ -58,7 +58,7 @@ comma_taken (Comma ∷ ts) e = one_taken Comma ts
 comma_taken [] e = absurd cc
 comma_taken (t ∷ ts) e = absurd cc
 
--- behind an item: a comma and others, or nothing
+-- after an item: a comma and others, or nothing
 abbrev Others : Plan → Plan
 Others all = Or (Then (Sign Comma) all) Nothing
 
@@ -83,7 +83,7 @@ pub name_list_reads : (ts : List Symbol) → Reads NameList ts (name_list ts)
 name_list_reads ts = separated_reads a_name AName NameList a_name_reads are_names (suc (length ts)) ts
 
 -- ---- numbers
--- a number behind a sign
+-- a number after a sign
 signed_reads : (t : Symbol) (f : ℕ → Literal) → ((n : ℕ) (tail : List Symbol) → SpellsNumber (t ∷ Integer n ∷ tail) (f n) tail)
     → (ts : List Symbol) → Reads ALiteral (t ∷ ts) (a_value ts >>= λ n. Ok (f n.0, n.1))
 signed_reads t f s (Integer n ∷ ts) = took (record { used = t ∷ Integer n ∷ []; whole = refl; spans = λ tail. counted (s n tail) })

@@ -80,17 +80,17 @@ drop_fewer [] = omega arith
 drop_fewer (t ∷ ts) = omega arith
 
 module _ {A : Type 0} (item : List Symbol → Step A) where
-  -- what stands behind an item
+  -- what follows an item
   abbrev pub behind_item : A → List Symbol → Step (List A)
   behind_item x ts = cond (at_comma ts) (with_first x (all_separated item (drop 1 ts))) (Ok (x ∷ [], ts))
 
-  -- an item, as it is read, and then what stands behind it
+  -- an item, as it is read, and then what follows it
   pub item_law : (x : A) (all ts : List Symbol) → item all ≡ Ok (x, ts) → length ts < length all → all_separated item all ≡ behind_item x ts
   item_law x all ts e fewer = of_test (at_comma ts)
       (λ on. let f = drop_fewer ts in separated_step item all x ts e on (omega arith) ∙ rw on refl)
       (λ off. separated_end item all x ts e off ∙ rw off refl)
 
-  -- in lists that are shorter than so many
+  -- in lists that are shorter than N
   abbrev pub SeparatedAgree : Fork → ℕ → ℕ → Type 0
   SeparatedAgree k d n = (ts us : List Symbol) → length ts < n → Same k d ts us → BothRead k d ts (all_separated item ts) (all_separated item us)
 
@@ -126,7 +126,7 @@ pub name_list_both : {k : Fork} {d : ℕ} {ts us : List Symbol} → Same k d ts 
 name_list_both {k} {d} {ts = ts} same = separated_among a_name k d refl names_look (suc (length ts)) _ _ (omega arith) same
 
 -- ---- numbers
--- behind a sign
+-- after a sign
 abbrev behind_sign : (ℕ → Literal) → List Symbol → Step (List Literal)
 behind_sign f (Integer n ∷ ts) = behind_item a_literal (f n) ts
 behind_sign f ts = Err ts

@@ -61,7 +61,7 @@ pub data Spelled (level : Level) : List Symbol → List Symbol → Type 0 where
 pub record Adds (items : Items) (ts mid : List Symbol) : Type 0 where
   pub others : (rest : List Symbol) (x : Tree) → Spells (Further items) mid x rest → Spelled (Further items) ts rest
 
--- nothing, or an operator of this precedence and what stands behind it
+-- nothing, or an operator of this precedence and what follows it
 pub data Onward (kind : Operands) (comma : Commas) (h : ℕ) : List Symbol → List Symbol → Type 0 where
   stay : {ts : List Symbol} → Onward kind comma h ts ts
   onward : {mid rest : List Symbol} (t : Symbol)
@@ -76,7 +76,7 @@ pub data Either (P Q : Span) : List Symbol → List Symbol → Type 0 where
   this : {a b : List Symbol} → P a b → Either P Q a b
   that : {a b : List Symbol} → Q a b → Either P Q a b
 
--- What a reader means to take: pieces, one behind the other.
+-- What a reader means to take: pieces, one after the other.
 pub data Plan : Type 0 where
   Nothing : Plan
   Sign : Symbol → Plan
@@ -196,7 +196,7 @@ pub data Fits {A : Type 0} (p : Plan) (out : A → List Symbol) (ts : List Symbo
   took : {x : A} → Takes (Spans p) ts (out x) → Fits p out ts (Ok x)
   stuck : {at : List Symbol} → Sticks (Spans p) ts at → Fits p out ts (Err at)
 
--- What is taken behind what was taken is taken from the beginning.
+-- What is taken after what was taken is taken from the beginning.
 pub joins : {P Q : Span} {a b c : List Symbol} → Takes P a b → Takes Q b c → Takes (Both P Q) a c
 joins {P = P} {Q = Q} {c = c} s t = record {
   used = s.used ++ t.used;
@@ -204,7 +204,7 @@ joins {P = P} {Q = Q} {c = c} s t = record {
   spans = λ tail. subst (λ l. Both P Q l tail) (sym (append_assoc s.used t.used tail)) (both (s.spans (t.used ++ tail)) (t.spans tail));
 }
 
--- so is a place behind it
+-- so is a place after it
 sticks_behind : {P Q : Span} {a b at : List Symbol} → Takes P a b → Sticks Q b at → Sticks (Both P Q) a at
 sticks_behind {P = P} {Q = Q} {at = at} s t = record {
   used = s.used ++ t.used;
@@ -213,7 +213,7 @@ sticks_behind {P = P} {Q = Q} {at = at} s t = record {
       λ tail. let (mid, q) = t.completed tail in (mid, subst (λ l. Both P Q l tail) (sym (append_assoc s.used t.used mid)) (both (s.spans (t.used ++ mid)) q));
 }
 
--- a reader behind what was taken
+-- a reader after what was taken
 pub behind : (p : Plan) {q : Plan} {B : Type 0} {out : B → List Symbol} {a b : List Symbol} {r : Result B (List Symbol)}
     → Takes (Spans p) a b → Fits q out b r → Fits (Then p q) out a r
 behind p s (took t) = took (joins s t)
@@ -227,7 +227,7 @@ sticks_before q s = record {
   completed = λ tail. let (mid, second) = starts q tail in let (ts, first) = s.completed mid in (ts, both first second);
 }
 
--- one reader behind the other
+-- one reader after the other
 pub next : {p q : Plan} {A B : Type 0}
     {from : A → List Symbol} {out : B → List Symbol} {ts : List Symbol} {r : Result A (List Symbol)} {f : A → Result B (List Symbol)}
     → Fits p from ts r → ((x : A) → Fits q out (from x) (f x)) → Fits (Then p q) out ts (r >>= f)
@@ -272,7 +272,7 @@ made {p = p} s g = as_plan p (next s g) no_more_taken
 pub unread : (p : Plan) {A : Type 0} {out : A → List Symbol} {ts : List Symbol} → Fits {A = A} p out ts (Err ts)
 unread p {ts = ts} = stuck (record { used = []; whole = refl; completed = starts p })
 
--- what stands already may stop anywhere behind it
+-- what stands already may stop anywhere after it
 pub stays : {P : Span} {ts at : List Symbol} → Takes P ts at → Sticks P ts at
 stays s = record { used = s.used; whole = s.whole; completed = λ tail. (tail, s.spans tail) }
 

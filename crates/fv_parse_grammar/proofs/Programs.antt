@@ -96,7 +96,7 @@ declaration_passes : (ts : List Symbol) → Passes (Then AName (Or (Then AName D
 declaration_passes ts = next (a_name_reads ts) (λ n. declared_for_passes n.1)
 
 -- ---- lists
--- What further stands in a list adds to what is behind it.
+-- What further stands in a list adds to what follows it.
 data Puts (items : Items) (ts : List Symbol) : Item → Type 0 where
   no_item : Puts items ts descent.Nothing
   skip_item : {rest : List Symbol} → Takes (Spans (Adding items)) ts rest → Puts items ts (Skip rest)

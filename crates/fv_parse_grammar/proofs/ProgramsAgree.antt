@@ -48,7 +48,7 @@ nothing_behind inner start n = refl
 
 -- by readers that agree inside brackets
 module _ {k : Fork} {d : ℕ} {inner inner' : Reader} (inside : AgreesInside k (suc d) inner inner') where
-  -- behind the name
+  -- after the name
   definition_both : (n : ℕ) {ts us : List Symbol} → Same k d ts us → BothRead k d ts (definition inner (Name n ∷ ts)) (definition inner' (Name n ∷ us))
   unfolding definition
   definition_both n {ts = ts} {us = us} same =
@@ -60,7 +60,7 @@ module _ {k : Fork} {d : ℕ} {inner inner' : Reader} (inside : AgreesInside k (
       also (expect_both by_open same) (λ opened opened' s. also (enclosed_both inside insides.Patterns s)
       (λ ps ps' s. also (expect_both by_arrow s) (λ side side' s. also (ended_both inside s) (λ x y s. given s))))
 
-  -- behind the bracket
+  -- after the bracket
   rule_behind : {ts us : List Symbol} → Same k (suc d) ts us → BothRead k d ts (one_rule inner (Open ∷ ts)) (one_rule inner' (Open ∷ us))
   unfolding one_rule
   rule_behind same =
@@ -93,7 +93,7 @@ skip_law next t ts (Err at) e few = many_stop next (t ∷ ts) at e
 abbrev ItemsAgree : Fork → ℕ → (List Symbol → Item) → (List Symbol → Item) → ℕ → Type 0
 ItemsAgree k d next next' n = (ts us : List Symbol) → length ts < n → Same k d ts us → BothRead k d ts (all_of next ts) (all_of next' us)
 
--- an item behind a token, and what is passed over behind one
+-- an item after a token, and what is passed over after one
 one_both : {k : Fork} {m d : ℕ} (n : ℕ) (next next' : List Symbol → Item) (t : Symbol) (ts us : List Symbol) (r s : Step Tree)
     → ItemsAgree k d next next' n → length (t ∷ ts) ≤ n → next (t ∷ ts) ≡ one_of r → next' (t ∷ us) ≡ one_of s → Same k m ts us → BothRead k d ts r s
     → BothRead k d ts (all_of next (t ∷ ts)) (all_of next' (t ∷ us))

@@ -44,7 +44,7 @@ unfolding run
 run_keeps P body step x ts y rest p e = turns_keep P body step (suc (length ts)) x ts y rest p e
 
 -- ---- what commas separate
--- What an item spells and what spells all: one item does, and one with a comma and others behind it.
+-- What an item spells and what spells all: one item does, and one with a comma and others after it.
 module _ {A : Type 0} (part : List Symbol → Step A)
     (One : List Symbol → A → List Symbol → Type 0) (All : List Symbol → List A → List Symbol → Type 0)
     (sound : (ts : List Symbol) (x : A) (rest : List Symbol) → part ts ≡ Ok (x, rest) → One ts x rest)
@@ -88,7 +88,7 @@ a_value_ok (Integer m ∷ ts) n rest e = let p = read_as m n ts rest e in cc (p.
 a_value_ok [] n rest e = absurd cc
 a_value_ok (t ∷ ts) n rest e = absurd cc
 
--- a number, and what stands behind it
+-- a number, and what follows it
 abbrev Got : Literal → List Symbol → Step Literal
 Got x rest = Ok (x, rest)
 

@@ -56,17 +56,17 @@ operator_at [] = operators.Sequence
 operator_at (t ∷ ts) = operator t
 
 -- ---- single tokens
--- this mark, and what stands behind it
+-- this mark, and what follows it
 abbrev pub expect : Mark → List Symbol → Result (List Symbol) (List Symbol)
 expect m [] = Err []
 expect m (t ∷ ts) = if is_mark m t then Ok ts else Err (t ∷ ts)
 
--- a name's number, and what stands behind it
+-- a name's number, and what follows it
 abbrev pub a_name : List Symbol → Step ℕ
 a_name (Name n ∷ ts) = Ok (n, ts)
 a_name ts = Err ts
 
--- a string's number, and what stands behind it
+-- a string's number, and what follows it
 abbrev pub a_text : List Symbol → Step ℕ
 a_text (Text n ∷ ts) = Ok (n, ts)
 a_text ts = Err ts
@@ -78,7 +78,7 @@ at_comma (Comma ∷ ts) = true
 at_comma (t ∷ ts) = false
 
 -- ---- loops: turns of a body, as long as it goes on and tokens get fewer
--- what one turn of a loop does: nothing further, a tree and the tokens behind it, or what does not fit
+-- what one turn of a loop does: nothing further, a tree and the tokens after it, or what does not fit
 pub data Turn : Type 0 where
   Done : Turn
   Next : Tree → List Symbol → Turn
@@ -90,7 +90,7 @@ after go stay Done = stay
 after go stay (Next x ts) = go x ts
 after go stay (Stop ts) = Err ts
 
--- so many turns at most, each with fewer tokens
+-- at most N turns, each with fewer tokens
 unfoldable pub turns : ℕ → (Tree → List Symbol → Turn) → Tree → List Symbol → Step Tree
 turns zero body x ts = Err ts
 turns (suc k) body x ts = if nat_lt (length ts) k then turns k body x ts else after (turns k body) (Ok (x, ts)) (body x ts)
@@ -105,7 +105,7 @@ turn (Ok x) f = Next (f x.0) x.1
 turn (Err e) f = Stop e
 
 -- ---- what commas separate
--- so many items at most, with commas between
+-- at most N items, with commas between
 unfoldable pub separated : {A : Type 0} → (List Symbol → Step A) → ℕ → List Symbol → Step (List A)
 separated item zero ts = Err ts
 separated item (suc k) ts =
@@ -123,7 +123,7 @@ abbrev pub name_list : List Symbol → Step (List ℕ)
 name_list ts = all_separated a_name ts
 
 -- ---- numbers
--- an integer's number, and what stands behind it
+-- an integer's number, and what follows it
 abbrev pub a_value : List Symbol → Step ℕ
 a_value (Integer n ∷ ts) = Ok (n, ts)
 a_value ts = Err ts
@@ -139,15 +139,15 @@ a_literal ts = Err ts
 abbrev pub literal_list : List Symbol → Step (List Literal)
 literal_list ts = all_separated a_literal ts
 
--- ---- what stands in brackets, with the bracket behind it
--- what stands in brackets, and the bracket behind it
+-- ---- what stands in brackets, with the bracket after it
+-- what stands in brackets, and the bracket after it
 abbrev pub enclosed : Reader → Inside → List Symbol → Step Tree
 enclosed inner what ts = do
   x ← inner what ts
   rest ← expect marks.Close x.1
   Ok (x.0, rest)
 
--- an argument, with the comma behind it
+-- an argument, with the comma after it
 abbrev pub argument : Reader → List Symbol → Step Tree
 argument inner ts = do
   x ← inner insides.Argument ts
@@ -273,28 +273,28 @@ primary inner [] = Err []
 primary inner (t ∷ ts) = by_first inner t (t ∷ ts) ts
 
 -- ---- postfix
--- arguments ")", behind the bracket of an application
+-- arguments ")", after the bracket of an application
 abbrev pub applied_to : Reader → ℕ → Tree → List Symbol → Turn
 applied_to inner start x ts = turn (enclosed inner insides.Arguments ts) (λ y. Apply start x y)
 
--- a tick or an application, behind an operand
+-- a tick or an application, after an operand
 abbrev pub postfix_turn : Reader → ℕ → Tree → List Symbol → Turn
 postfix_turn inner start x [] = Done
 postfix_turn inner start x (Tick ∷ ts) = Next (Delayed start x) ts
 postfix_turn inner start x (Open ∷ ts) = applied_to inner start x ts
 postfix_turn inner start x (t ∷ ts) = Done
 
--- an operand with what stands behind it
+-- an operand with what follows it
 unfoldable pub postfix : Reader → List Symbol → Step Tree
 postfix inner ts = primary inner ts >>= λ x. run (postfix_turn inner (length ts)) x.0 x.1
 
 -- ---- patterns
--- a number behind a plus in a pattern
+-- a number after a plus in a pattern
 abbrev pub plus_number : ℕ → List Symbol → Step Tree
 plus_number start (Integer n ∷ ts) = Ok (Number start n, ts)
 plus_number start ts = Err ts
 
--- a number behind a minus in a pattern
+-- a number after a minus in a pattern
 abbrev pub minus_number : ℕ → List Symbol → Step Tree
 minus_number start (Integer n ∷ ts) = Ok (Negative start n, ts)
 minus_number start ts = Err ts
@@ -319,12 +319,12 @@ operand inner operands.Patterns ts = atom inner ts
 operand inner operands.Expressions ts = postfix inner ts
 
 -- ---- operators
--- an operator of this power and what stands behind it, joined to the left
+-- an operator of this power and what follows it, joined to the left
 abbrev pub left_turn : (List Symbol → Step Tree) → Operands → Commas → ℕ → ℕ → Tree → List Symbol → Turn
 left_turn part kind comma r start x ts =
     if nat_eq (power_at kind comma ts) r then turn (part (drop 1 ts)) (λ y. Binary start (operator_at ts) x y) else Done
 
--- so many parts at most, joined to the right
+-- at most N parts, joined to the right
 unfoldable pub rights : ℕ → (List Symbol → Step Tree) → Operands → Commas → ℕ → List Symbol → Step Tree
 rights zero part kind comma r ts = Err ts
 rights (suc k) part kind comma r ts =
@@ -351,19 +351,19 @@ at_with [] = false
 at_with (With ∷ ts) = true
 at_with (t ∷ ts) = false
 
--- "{" definitions "}", behind `with`
+-- "{" definitions "}", after `with`
 abbrev pub with_part : Reader → ℕ → Tree → List Symbol → Turn
 with_part inner start x ts =
     turn (expect marks.OpenBrace ts >>= λ rest. (inner insides.Definitions rest >>= λ y. (expect marks.CloseBrace y.1 >>= λ end. Ok (y.0, end))))
     (λ y. Where start x y)
 
--- definitions that stand behind an expression
+-- definitions that stand after an expression
 abbrev pub with_turn : Reader → ℕ → Tree → List Symbol → Turn
 with_turn inner start x [] = Done
 with_turn inner start x (With ∷ ts) = with_part inner start x ts
 with_turn inner start x (t ∷ ts) = Done
 
--- a phrase, and any number of `with`s behind it
+-- a phrase, and any number of `with`s after it
 unfoldable pub expression : Reader → List Symbol → Step Tree
 expression inner ts = phrase inner operands.Expressions commas.Join 8 ts >>= λ x. run (with_turn inner (length ts)) x.0 x.1
 
@@ -375,7 +375,7 @@ ended inner ts = do
   rest ← expect marks.Semicolon x.1
   Ok (x.0, rest)
 
--- patterns ")" "=" expression ";", behind a name and its bracket
+-- patterns ")" "=" expression ";", after a name and its bracket
 unfoldable pub function_after : Reader → ℕ → ℕ → List Symbol → Step Tree
 function_after inner start n ts = do
   ps ← enclosed inner insides.Patterns ts
@@ -383,14 +383,14 @@ function_after inner start n ts = do
   x ← ended inner side
   Ok (Function start n ps.0 x.0, x.1)
 
--- "=" expression ";", behind a name
+-- "=" expression ";", after a name
 unfoldable pub constant_after : Reader → ℕ → ℕ → List Symbol → Step Tree
 constant_after inner start n ts = do
   side ← expect marks.Equals ts
   x ← ended inner side
   Ok (Constant start n x.0, x.1)
 
--- what stands behind the name of a definition
+-- what follows the name of a definition
 abbrev pub after_name : Reader → ℕ → ℕ → List Symbol → Step Tree
 after_name inner start n (Open ∷ ts) = function_after inner start n ts
 after_name inner start n ts = constant_after inner start n ts
@@ -474,7 +474,7 @@ with_item others ts (Skip rest) = others rest
 with_item others ts (One x rest) = others rest >>= λ y. Ok (More x y.0, y.1)
 with_item others ts (Fault at) = Err at
 
--- so many further items at most
+-- at most N further items
 unfoldable pub many : ℕ → (List Symbol → Item) → List Symbol → Step Tree
 many zero next ts = Err ts
 many (suc k) next ts = if nat_lt (length ts) k then many k next ts else with_item (many k next) ts (next ts)
@@ -507,12 +507,12 @@ descend inner insides.Patterns ts = listed inner (Parts operands.Patterns) ts
 descend inner insides.Rules ts = listed inner Rules ts
 descend inner insides.Definitions ts = further inner Definitions ts
 
--- with so many brackets that may still be opened
+-- with N brackets that may still be opened
 unfoldable pub within : ℕ → Reader
 within zero what ts = Err ts
 within (suc nesting) what ts = descend (within nesting) what ts
 
--- nothing stands behind a program
+-- nothing stands after a program
 abbrev pub whole_text : Tree × List Symbol → Result Tree (List Symbol)
 whole_text (x, []) = Ok x
 whole_text (x, t ∷ ts) = Err (t ∷ ts)

@@ -73,7 +73,7 @@ unfolding program within further many listed definition
     iteration slider label panel turns run separated
 recursion_to_the_left = refl
 
--- `p = f(1, 2)';`: arguments are a list, and `'` goes behind the application
+-- `p = f(1, 2)';`: arguments are a list, and `'` goes after the application
 an_application : program 128 (Name 0 ∷ Equals ∷ Name 2 ∷ Open ∷ Integer 1 ∷ Comma ∷ Integer 2 ∷ Close ∷ Tick ∷ Semicolon ∷ [])
     ≡ Ok (More (Constant 10 0 (Delayed 8 (Apply 8 (Named 8 2) (More (Number 6 1) (More (Number 4 2) End))))) End)
 unfolding program within further many listed definition

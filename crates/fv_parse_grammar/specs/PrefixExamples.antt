@@ -32,7 +32,7 @@ a_group_not_closed : program 128 (Name 0 ∷ Equals ∷ Open ∷ underscore ∷ 
 unfolding program within further many definition constant_after ended expression phrase chain rights postfix by_first turns run
 a_group_not_closed = refl
 
--- `process = (_);`, where no bracket may be opened, stops behind the bracket
+-- `process = (_);`, where no bracket may be opened, stops after the bracket
 no_nesting_for_a_group : program 0 (Name 0 ∷ Equals ∷ Open ∷ underscore ∷ Close ∷ Semicolon ∷ []) ≡ Err (underscore ∷ Close ∷ Semicolon ∷ [])
 unfolding program within further many definition constant_after ended expression phrase chain rights postfix by_first turns run
 no_nesting_for_a_group = refl

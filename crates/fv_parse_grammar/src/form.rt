@@ -18,6 +18,6 @@ pub enum Operator {
 pub enum Literal {
     /// With or without `+`.
     Plain(u32),
-    /// Behind `-`.
+    /// After `-`.
     Negative(u32),
 }

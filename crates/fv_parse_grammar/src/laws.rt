@@ -3,7 +3,7 @@
 ghost use Rattle.fv_parse_grammar.specs.Grammar.{SpelledOnce};
 ghost use Rattle.fv_parse_grammar.specs.Laws.{ReadsOnlySpelled, ReadsAllSpelled, NestsWithinLength};
 
-/// Tokens spell at most one program, so how operators power and associate is settled.
+/// Tokens spell at most one program, so precedence and associativity are settled.
 pub fn spelled_once()
     ensures { SpelledOnce }
 {}

@@ -5,21 +5,22 @@ ghost use Rattle.fv_parse_grammar.specs.Beginnings.{StopsWhereNoneGoesOn, StopsA
 
 use crate::reads_what_is_spelled;
 
-/// Where the descent stops, the tokens before begin a program.
+/// The tokens before the place where the descent stops are a viable prefix: they begin a program.
 pub fn stops_behind_a_beginning()
     ensures { StopsBehindABeginning }
 {}
 
-/// A beginning of what begins a program begins one too, and so do the tokens of a whole program.
+/// A prefix of a viable prefix is one too, and so are the tokens of a whole program.
 pub fn beginnings_are_closed()
     ensures closed { BeginningsAreClosed }
     ensures whole { ProgramsBegin }
 {}
 
-/// No program begins with the tokens up to and with the one where the descent stops.
+/// No program begins with the tokens up to the one where the descent stops and that one.
 pub fn stops_where_none_goes_on()
     ensures { StopsWhereNoneGoesOn }
 {
+    // For the prover: the descent reads all that is spelled, so nothing is spelled where it stops.
     reads_what_is_spelled();
 }
 
@@ -28,5 +29,6 @@ pub fn stops_at_the_place()
     ensures place { StopsAtThePlace }
     ensures unique { OnePlace }
 {
+    // For the prover: the descent reads what is spelled and nothing else.
     reads_what_is_spelled();
 }

@@ -76,7 +76,7 @@ module _ {A : Type 0} (item : List Symbol → Step A) where
   items_regroup xs x (Ok y) = ap (λ (ys : List A). let r : Step (List A) = Ok (ys, y.1) in r) (sym (append_assoc xs (x ∷ []) y.0))
   items_regroup xs x (Err e) = refl
 
-  -- behind an item of a list
+  -- after an item of a list
   module _ (xs all : List A) (ts : List Symbol) (x : A) (rest : List Symbol) (whole : Step (List A)) (is_read : item ts ≡ Ok (x, rest))
       (grown : all ≡ xs ++ x ∷ []) (so_far : with_items xs (all_separated item ts) ≡ whole) where
     pub items_on : (next : List Symbol) → at_comma rest ≡ true → next ≡ drop 1 rest → length next < length ts → with_items all (all_separated item next) ≡ whole

@@ -39,7 +39,7 @@ right_at : (inner : Descent) (kind : Operands) (comma : Commas) (k : ℕ) (ts : 
 unfolding phrase
 right_at inner kind comma k ts h = let e : is_left (suc k) ≡ false = lt-leb (suc k) 5 h in rw e refl
 
--- a phrase of a precedence, by the phrase below it and the operators behind that
+-- a phrase of a precedence, by the phrase below it and the operators after that
 module _ (inner : Descent) (kind : Operands) (comma : Commas) (h : ℕ) (ts : List Symbol) where
   abbrev part_below : List Symbol → Step Tree
   part_below = phrase inner kind comma (h - 1)

@@ -42,7 +42,7 @@ impl Arena {
         }
     }
 
-    /// Adds a node, and answers its number.
+    /// Adds a node and returns its number.
     pub(crate) fn push(&mut self, node: TreeNode, start: usize) -> Result<TreeId, AllocError>
         requires { PartsBelow (length (trees self.old)) node }
         ensures { IfOk result (λ id. Adds (trees self.old) (trees self.new) id node start) }

@@ -77,7 +77,7 @@ impl Reader<'_> {
         }
     }
 
-    /// A waveform, behind its word.
+    /// A waveform, after its word.
     #[tactic(auto, unfolding(fv_parse_grammar::specs::Descent::waveform))]
     pub(crate) fn waveform(&mut self, start: usize) -> Result<TreeId, Stop>
         ensures is { Gives self.old self.new result (waveform start self.old.symbols.rest.now) }
@@ -89,7 +89,7 @@ impl Reader<'_> {
         Ok(self.arena.push(TreeNode::Waveform(numbers), start)?)
     }
 
-    /// A button or a checkbox, behind its word.
+    /// A button or a checkbox, after its word.
     #[tactic(auto, unfolding(fv_parse_grammar::specs::Descent::switch))]
     pub(crate) fn switch(&mut self, start: usize, kind: Switch) -> Result<TreeId, Stop>
         ensures is { Gives self.old self.new result (switch start kind self.old.symbols.rest.now) }

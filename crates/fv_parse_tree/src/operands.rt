@@ -16,7 +16,7 @@ use fv_lex::Symbol;
 use fv_parse_grammar::{Commas, Inside, Items, Iteration, Mark, Operands, Panel, Side, Slider};
 
 impl<'a> Reader<'a> {
-    /// What stands behind an open bracket. All recursion goes by here.
+    /// What follows an open bracket. All recursion goes by here.
     #[cycle(parser)]
     pub(crate) fn inside(&mut self, nesting: usize, what: Inside) -> Result<TreeId, Stop>
         ensures is { Gives self.old self.new result (within nesting what self.old.symbols.rest.now) }
@@ -41,7 +41,7 @@ impl<'a> Reader<'a> {
         }
     }
 
-    /// What stands behind an open bracket, and the bracket that closes it.
+    /// What follows an open bracket, and the bracket that closes it.
     #[cycle(parser)]
     pub(crate) fn enclosed(&mut self, nesting: usize, what: Inside) -> Result<TreeId, Stop>
         ensures is { Gives self.old self.new result (enclosed (within nesting) what self.old.symbols.rest.now) }
@@ -52,7 +52,7 @@ impl<'a> Reader<'a> {
         Ok(tree)
     }
 
-    /// An argument, and the comma behind it.
+    /// An argument, and the comma after it.
     #[cycle(parser)]
     fn argument(&mut self, nesting: usize) -> Result<TreeId, Stop>
         ensures is { Gives self.old self.new result (argument (within nesting) self.old.symbols.rest.now) }

@@ -1,4 +1,4 @@
-// What operators join, and the definitions that stand behind it.
+// What operators join, and the definitions that stand after it.
 
 ghost use Rattle.std.specs.Prelude.{◌+◌, ◌-◌, ◌<◌, ◌≤◌, length, OnOk, IfOk, OnSome};
 ghost use Rattle.fv_parse_grammar.specs.Descent.{within, left_turn, chain, phrase, with_part, with_turn, expression, run};

@@ -12,7 +12,7 @@ use std::alloc::{AllocError, AllocFailed, Global};
 pub(crate) enum Stop {
     /// Memory ran out.
     NoMemory,
-    /// The first of the symbols that are left does not fit.
+    /// The first of the symbols that are left fits into no production there.
     Syntax,
 }
 

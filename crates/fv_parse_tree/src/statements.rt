@@ -36,7 +36,7 @@ fn keep(parts: &mut Vec<TreeId>, found: Option<TreeId>) -> Result<(), AllocError
 }
 
 impl Reader<'_> {
-    /// An expression, and the semicolon behind it.
+    /// An expression, and the semicolon after it.
     #[tactic(auto, unfolding(fv_parse_grammar::specs::Descent::ended))]
     #[cycle(parser)]
     fn ended(&mut self, nesting: usize) -> Result<TreeId, Stop>

@@ -9,7 +9,7 @@ use fv_lex::Symbol;
 use fv_num::Op;
 use fv_parse_grammar::{Commas, Operands, Operator, Primitive};
 
-/// How an operator of expressions powers, in a pattern or not.
+/// How loosely an operator of expressions binds, in a pattern or not.
 fn outside(operands: Operands, power: usize) -> usize
     ensures { result ≡ outside operands power }
 {
@@ -19,7 +19,7 @@ fn outside(operands: Operands, power: usize) -> usize
     }
 }
 
-/// How a comma powers.
+/// How loosely a comma binds.
 fn comma_power(commas: Commas) -> usize
     ensures { result ≡ power Expressions commas Comma }
 {

@@ -47,7 +47,7 @@ impl Symbols<'_> {
         }
     }
 
-    /// Passes a name, and answers its number.
+    /// Passes a name and returns its number.
     pub(crate) fn name(&mut self) -> Result<u64, Stop>
         ensures is { Takes (λ n rest. (n, rest)) self.new result (a_name self.old.rest.now) }
         ensures shorter { OnOk result (length self.new.rest.now < length self.old.rest.now) }
@@ -61,7 +61,7 @@ impl Symbols<'_> {
         }
     }
 
-    /// Passes a string, and answers its number.
+    /// Passes a string and returns its number.
     pub(crate) fn text(&mut self) -> Result<u64, Stop>
         ensures is { Takes (λ n rest. (n, rest)) self.new result (a_text self.old.rest.now) }
         ensures shorter { OnOk result (length self.new.rest.now < length self.old.rest.now) }
@@ -138,7 +138,7 @@ impl Symbols<'_> {
         }
     }
 
-    // Passes an integer, and answers its number.
+    // Passes an integer and returns its number.
     fn value(&mut self) -> Result<u32, Stop>
         ensures is { Takes (λ n rest. (n, rest)) self.new result (a_value self.old.rest.now) }
         ensures shorter { OnOk result (length self.new.rest.now < length self.old.rest.now) }

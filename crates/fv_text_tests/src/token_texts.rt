@@ -181,7 +181,7 @@ static PROGRAM: [(Kind, Row); 18] = [
     (Kind::Sign, (Symbol::Semicolon, 66, b";")),
 ];
 
-/// A program with comments, strings and calls, behind a line of its own.
+/// A program with comments, strings and calls, after a line of its own.
 #[test]
 fn program(rt: HostRuntime) -> Result<(), Fail> {
     let text =
@@ -316,7 +316,7 @@ fn first_refusals(rt: HostRuntime) -> Result<(), Fail> {
     Ok(())
 }
 
-/// A text and then so many times some bytes.
+/// The text, and then `piece` this many times.
 fn repeated(alloc: Global, text: &[u8], piece: &[u8], times: usize) -> Result<Vec<u8>, AllocError> {
     let mut all = Vec::from_slice(alloc, text)?;
     for _ in 0..times {
@@ -327,6 +327,7 @@ fn repeated(alloc: Global, text: &[u8], piece: &[u8], times: usize) -> Result<Ve
 
 #[test]
 fn limits(rt: HostRuntime) -> Result<(), Fail> {
+    // A law for the prover, which does nothing when it runs.
     one_answer();
     let alloc = rt.alloc();
     let blanks = repeated(alloc, b"", b" ", 1048576)?;

@@ -57,7 +57,7 @@ no_integer b bs d = rw d refl
 pub no_text : (b : ℕ) (bs : List ℕ) → is_quote b ≡ false → is_token Text (b ∷ bs) ≡ false
 no_text b bs q = rw q refl
 
--- no sign goes on behind b where no sign of two bytes does
+-- no sign goes on after b where no sign of two bytes does
 pub no_sign : (b : ℕ) (bs : List ℕ) (c : ℕ) (more : List ℕ) → ((d : ℕ) → double b d ≡ None) → is_token Sign (b ∷ (bs ++ c ∷ more)) ≡ false
 no_sign b [] c [] none = rw (none c) refl
 no_sign b [] c (d ∷ more) none = refl

@@ -10,7 +10,7 @@ pub either : {A : Type 0} {y : A} (Q : Type 0) (b : Bool) (u v : A) → (b ≡ t
 either Q true u v f g e = f refl e
 either Q false u v f g e = g refl e
 
--- the first byte behind a run does not belong to it
+-- the first byte after a run does not belong to it
 abbrev pub Stops : (ℕ → Bool) → List ℕ → Type 0
 Stops p [] = Unit {0}
 Stops p (b ∷ bs) = p b ≡ false

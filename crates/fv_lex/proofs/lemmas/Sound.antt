@@ -22,7 +22,7 @@ use Rattle.fv_lex.proofs.lemmas.Classes.{digit_range, letter_range, no_letter, n
 use Rattle.fv_lex.proofs.lemmas.Classes.{no_double_high, no_name, no_integer, no_text, no_sign, name_stops}
 use Rattle.fv_base.specs.declared.limits.TheConstants.{GREATEST_LITERAL}
 
--- so many bytes at the front of a text are a piece
+-- N bytes at the front of a text are a piece
 pub record At (text : List ℕ) (n : ℕ) (kind : Option Kind) : Type 0 where
   pub piece : IsPiece (take n text) (drop n text) kind
   pub some : 0 < n
@@ -61,7 +61,7 @@ pub front_before : (digits rest : List ℕ)
     → is_integer digits ≡ true → Stops is_digit rest → take (prefix_len is_digit (digits ++ rest)) (digits ++ rest) ≡ digits
 front_before digits rest e h = take_at digits rest (prefix_len is_digit (digits ++ rest)) (sym (run_is is_digit digits rest (integer_all digits e) h))
 
--- a real literal begins with `.` and a digit, or with digits behind which its tail stands
+-- a real literal begins with `.` and a digit, or with digits after which its tail stands
 pub real_parts : (text : List ℕ) → BeginsReal text → ((d : ℕ) × (rest : List ℕ) × (text ≡ 46 ∷ d ∷ rest) × (is_digit d ≡ true))
     ⊎ ((begins is_digit text ≡ true) × (is_real_tail (drop (prefix_len is_digit text) text) ≡ true))
 real_parts text (fraction {d} {rest} e) = inl (d, rest, refl, e)
@@ -102,7 +102,7 @@ name_run_case : (v : Bool) (b : ℕ) (bs : List ℕ)
 name_run_case true b bs u ih h = rw (prefix_len-passes is_name_byte b bs (underscore_byte b u), u) (ih h)
 name_run_case false b bs u ih h = rw (prefix_len-passes is_name_byte b bs (letter_byte b h), u, h, list_all-prefix_len is_name_byte bs) refl
 
--- the longest run of name bytes is a name, where a letter comes first behind its `_`
+-- the longest run of name bytes is a name, where a letter comes first after its `_`
 pub name_run : (text : List ℕ) → begins is_letter (drop (prefix_len is_underscore text) text) ≡ true → is_name (take (prefix_len is_name_byte text) text) ≡ true
 name_run [] e = absurd cc
 name_run (b ∷ bs) e =

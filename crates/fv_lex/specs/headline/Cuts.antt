@@ -15,7 +15,7 @@ use Rattle.fv_lex.specs.headline.Bytes.{line_feed, open_bracket, close_bracket, 
 
 -- ---- brackets
 
--- How many brackets are open behind a piece: one more behind `(` or `{`, one less, but not below 0, behind `)` or `}`.
+-- How many brackets are open after a piece: one more after `(` or `{`, one less, but not below 0, after `)` or `}`.
 abbrev pub depth_after : ℕ → List ℕ → ℕ
 depth_after depth [] = depth
 depth_after depth (b ∷ []) =
@@ -32,7 +32,8 @@ pub record Cut : Type 0 where
   pub bytes : List ℕ
   pub kind : Option Kind
 
--- A text at which so many brackets are open is these pieces, and then a rest, at which so many are open.
+-- `Cuts text depth pieces rest end`: the text, where `depth` brackets are open, is these pieces and then the rest, where `end` are
+-- open.
 pub data Cuts : List ℕ → ℕ → List Cut → List ℕ → ℕ → Type 0 where
   nothing_more : {rest : List ℕ} {depth : ℕ} → Cuts rest depth [] rest depth
   piece_first : {bytes rest end : List ℕ} {kind : Option Kind} {cuts : List Cut} {depth deep : ℕ}
@@ -52,11 +53,11 @@ pub data Ends : List ℕ → ℕ → Option Fault → Type 0 where
 abbrev pub first_place : Place
 first_place = record { line = 1; column = 1 }
 
--- A line ends behind a line feed, and a column is one byte.
+-- A line ends after a line feed, and a column is one byte.
 abbrev pub next_place : Place → ℕ → Place
 next_place place b = if nat_eq b line_feed then record { line = place.line + 1; column = 1 } else record { line = place.line; column = place.column + 1 }
 
--- the place behind these bytes, from a place on (this project's profile)
+-- the place after these bytes, from a place on (this project's profile)
 abbrev pub place_after : Place → List ℕ → Place
 place_after place [] = place
 place_after place (b ∷ bs) = place_after (next_place place b) bs
@@ -71,7 +72,7 @@ abbrev pub tokens_of : ℕ → Place → List Cut → List Token
 tokens_of n place [] = []
 tokens_of n place (c ∷ cuts) = token_of n place c.bytes c.kind ++ tokens_of (n + length (token_of n place c.bytes c.kind)) (place_after place c.bytes) cuts
 
--- the place behind a cut, from a place on (this project's profile)
+-- the place after a cut, from a place on (this project's profile)
 abbrev pub end_of : Place → List Cut → Place
 end_of place [] = place
 end_of place (c ∷ cuts) = end_of (place_after place c.bytes) cuts
@@ -86,7 +87,7 @@ refusal_at place faults.RealLiteral = refusals.RealLiteral place.line place.colu
 refusal_at place faults.LiteralTooLarge = refusals.LiteralTooLarge place.line place.column
 refusal_at place faults.Nesting = refusals.Nesting place.line place.column
 
--- the tokens of a whole cut, or the refusal behind one
+-- the tokens of a whole cut, or the refusal after one
 abbrev pub answer_of : List Cut → Option Fault → Result Lexed LexRefusal
 answer_of cuts None = Ok (record { tokens = tokens_of 0 first_place cuts; end = end_of first_place cuts })
 answer_of cuts (Some fault) = Err (refusal_at (end_of first_place cuts) fault)

@@ -12,7 +12,7 @@ use Rattle.fv_lex.specs.headline.Symbols.{sign, value}
 
 -- ---- tokens
 
--- a letter, with `_` alone before it, and behind it letters, digits and `_`
+-- a letter, with `_` alone before it, and after it letters, digits and `_`
 abbrev pub is_name : List ℕ → Bool
 is_name [] = false
 is_name (b ∷ bs) = if is_underscore b then is_name bs else is_letter b && list_all is_name_byte bs
@@ -27,7 +27,7 @@ abbrev pub is_nothing : List ℕ → Bool
 is_nothing [] = true
 is_nothing (b ∷ bs) = false
 
--- what stands behind a quote: bytes that are no quote, and a quote
+-- what follows a quote: bytes that are no quote, and a quote
 abbrev pub closes : List ℕ → Bool
 closes [] = false
 closes (b ∷ bs) = if is_quote b then is_nothing bs else closes bs
@@ -58,12 +58,12 @@ BeginsNoToken text = (kind : Kind) (bytes rest : List ℕ) → text ≡ bytes ++
 abbrev pub is_plus_or_minus : ℕ → Bool
 is_plus_or_minus b = nat_eq b plus || nat_eq b minus
 
--- what stands behind the `e` or `E` of a real literal: a digit, or `+` or `-` and a digit
+-- what follows the `e` or `E` of a real literal: a digit, or `+` or `-` and a digit
 abbrev pub is_exponent : List ℕ → Bool
 is_exponent [] = false
 is_exponent (b ∷ bs) = is_digit b || (is_plus_or_minus b && begins is_digit bs)
 
--- what makes a real literal of the digits before it: `.`, or an exponent, or an `f` behind which no letter, digit or `_` comes
+-- what makes a real literal of the digits before it: `.`, or an exponent, or an `f` after which no letter, digit or `_` comes
 abbrev pub is_real_tail : List ℕ → Bool
 is_real_tail [] = false
 is_real_tail (b ∷ bs) = nat_eq b dot || (((nat_eq b 101 || nat_eq b 69) && is_exponent bs) || (nat_eq b 102 && not (begins is_name_byte bs)))

@@ -42,19 +42,19 @@ singles =
     (39, symbols.Tick) ∷ (open_bracket, symbols.Open) ∷ (close_bracket, symbols.Close) ∷ (open_brace, symbols.OpenBrace) ∷ (close_brace, symbols.CloseBrace) ∷
     (equals, symbols.Equals) ∷ (59, symbols.Semicolon) ∷ (dot, symbols.Dot) ∷ (92, symbols.Backslash) ∷ (94, symbols.Caret) ∷ []
 
--- the second bytes of signs, by the first: <: << <=
+-- the second bytes of signs that begin with `<`: <: << <=
 abbrev pub after_less : List (ℕ × Symbol)
 after_less = (58, symbols.Split) ∷ (less, operation ops.Shl) ∷ (equals, operation ops.Le) ∷ []
 
--- >> >=
+-- the second bytes of signs that begin with `>`: >> >=
 abbrev pub after_greater : List (ℕ × Symbol)
 after_greater = (greater, operation ops.Shr) ∷ (equals, operation ops.Ge) ∷ []
 
--- == =>
+-- the second bytes of signs that begin with `=`: == =>
 abbrev pub after_equals : List (ℕ × Symbol)
 after_equals = (equals, operation ops.Eq) ∷ (greater, symbols.Arrow) ∷ []
 
--- :> and !=
+-- the sign of two bytes, if it is one: those that begin with `<`, `>` or `=`, and :> and !=
 abbrev pub double : ℕ → ℕ → Option Symbol
 double b c =
     if nat_eq b less then at_byte after_less c

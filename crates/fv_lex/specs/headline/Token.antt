@@ -11,7 +11,7 @@ pub record Token : Type 0 where
   pub text : List ℕ
   pub place : Place
 
--- The tokens of a text in order, and the place behind its last byte.
+-- The tokens of a text in order, and the place after its last byte.
 pub record Lexed : Type 0 where
   pub tokens : List Token
   pub end : Place

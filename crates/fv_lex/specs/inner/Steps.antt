@@ -39,7 +39,7 @@ more_by n found = option_map (λ m. n + m) found
 abbrev pub bare_underscores : List ℕ → ℕ
 bare_underscores text = if begins is_letter (drop (prefix_len is_underscore text) text) then 0 else prefix_len is_underscore text
 
--- so many `_` at the front are known to be no part of a name, or nothing is known
+-- N `_` at the front are known to be no part of a name, or nothing is known
 abbrev pub IsBare : ℕ → List ℕ → Type 0
 IsBare n text = 0 < n → n ≡ bare_underscores text
 
@@ -48,14 +48,14 @@ abbrev pub found_or : (ℕ → Next) → Option ℕ → Next
 found_or f None = Refused Unclosed
 found_or f (Some n) = f n
 
--- digits and what is behind them
+-- digits and what follows them
 abbrev pub number_next : List ℕ → Next
 number_next text =
     if is_real_tail (drop (prefix_len is_digit text) text) then Refused RealLiteral
     else (if nat_lt GREATEST_LITERAL (decimal_after 0 (take (prefix_len is_digit text) text)) then Refused LiteralTooLarge
     else Found (prefix_len is_digit text) (Some Integer))
 
--- what begins with `/`, by what is behind that
+-- what begins with `/`, by what follows that
 abbrev pub slash_next : List ℕ → Next
 slash_next [] = Found 1 (Some Sign)
 slash_next (c ∷ cs) =
@@ -63,7 +63,7 @@ slash_next (c ∷ cs) =
     else (if nat_eq c star then found_or (λ n. Found (2 + n) None) (to_close cs)
     else Found 1 (Some Sign))
 
--- what begins with a byte of its own, by what is behind that
+-- what begins with a byte of its own, by what follows that
 abbrev pub sign_next : ℕ → List ℕ → Next
 sign_next b [] = if is_some (at_byte singles b) then Found 1 (Some Sign) else Refused BadByte
 sign_next b (c ∷ cs) =

@@ -7,7 +7,7 @@ use Rattle.fv_parse.specs.declared.definitions.Defined.{Defined}
 use Rattle.fv_parse_grammar.specs.headline.Tree.{Tree, Named, Binary, Constant, Function, Rule, More, items}
 use Rattle.fv_parse.specs.headline.Trees.{text_of}
 
--- What a tree defines: the number of its name's token, and how many patterns stand behind it. A rule has no name: it has the
+-- What a tree defines: the number of its name's token, and how many patterns follow it. A rule has no name: it has the
 -- number of its first token. A text has `total` tokens (this project's profile).
 abbrev pub defined_by : ℕ → Tree → Option Defined
 defined_by total (Constant s n x) = Some (record { name = n; width = 0 })

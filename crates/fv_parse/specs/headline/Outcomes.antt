@@ -26,8 +26,8 @@ pub record IsAccepted (l : Lexed) (x : Spelled) : Type 0 where
   pub spelled : IsSpelled l x
   pub accepted : refused l x ≡ None
 
--- The place of a syntax error, which is that of a token or the end of the text: the tokens before it begin some program, and
--- with the one there none.
+-- The place of a syntax error, which is that of a token or the end of the text. The tokens before it begin some program, and with
+-- the token there they begin none.
 pub record StopsAt (l : Lexed) (place : Place) : Type 0 where
   pub before : List Symbol
   pub rest : List Symbol

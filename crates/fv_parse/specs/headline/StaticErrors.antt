@@ -41,7 +41,7 @@ abbrev pub width_of : Lexed → List Defined → List ℕ → Option ℕ
 width_of l [] name = None
 width_of l (d ∷ ds) name = if bytes_eq (text_of l d.name) name then Some d.width else width_of l ds name
 
--- A definition behind the first one of its name: where one of the two has no parameters, the name is redefined;
+-- A definition after the first one of its name: where one of the two has no parameters, the name is redefined;
 -- else both need equally many. Among parameters a name stands once.
 abbrev pub clash : Among → Defined → ℕ → Option StaticError
 clash among.Names d width = Some (record { token = d.name; kind = Repeated })
@@ -50,7 +50,7 @@ clash among.Definitions d width =
     else (if nat_eq width 0 then Some (record { token = d.name; kind = Redefined })
     else (if nat_eq width d.width then None else Some (record { token = d.name; kind = Widths })))
 
--- the same, where the name may not have stood before
+-- what refuses a definition by the width of the first one of its name, if there is one before it
 abbrev pub clash_with : Among → Defined → Option ℕ → Option StaticError
 clash_with kind d None = None
 clash_with kind d (Some width) = clash kind d width

@@ -4,7 +4,8 @@ use Rattle.fv_lex.specs.declared.token.Place.{Place}
 use Rattle.fv_lex.specs.headline.Token.{Lexed, places_of, texts_of}
 pub use Rattle.fv_parse_tree.specs.Arena.{PartsBelow, AllBelow}
 
--- the place from which there are so many tokens, which behind the last one is the end of the text (this project's profile)
+-- the place from which a text has this many tokens left: that of a token, or the end of the text where none is left (this project's
+-- profile)
 abbrev pub place_from : Lexed → ℕ → Place
 place_from l start = unwrap_or (slice_get (places_of l.tokens) (length l.tokens - start)) l.end
 

@@ -6,7 +6,7 @@ use Rattle.fv_lex.specs.declared.token.Symbol.{Symbol}
 use Rattle.fv_lex.specs.declared.token.Symbol.TheVariants as symbols
 use Rattle.fv_lex.specs.headline.Token.{Token}
 
--- the words behind which a label stands (Faust manual)
+-- the words after which a label stands (Faust manual)
 abbrev pub is_control : Symbol → Bool
 is_control (symbols.Switch kind) = true
 is_control (symbols.Slider kind) = true
@@ -26,7 +26,7 @@ abbrev pub some_if : Bool → List ℕ → Option (List ℕ)
 some_if true word = Some word
 some_if false word = None
 
--- The word of an unsupported token, behind two other tokens: one of Faust's words, `^`, or `%` in the label of a control
+-- The word of an unsupported token, after two other tokens: one of Faust's words, `^`, or `%` in the label of a control
 -- (this project's profile).
 abbrev pub unsupported : Symbol → Symbol → Symbol → List ℕ → Option (List ℕ)
 unsupported before last (symbols.Unsupported n) text = Some text
@@ -34,7 +34,7 @@ unsupported before last symbols.Caret text = Some text
 unsupported before last (symbols.Text n) text = some_if ((is_control before && is_open last) && has_percent text) (codes "%")
 unsupported before last symbol text = None
 
--- the word of the first unsupported token, behind these two (this project's profile)
+-- the word of the first unsupported token, after these two (this project's profile)
 abbrev pub unsupported_from : Symbol → Symbol → List Token → Option (List ℕ)
 unsupported_from before last [] = None
 unsupported_from before last (t ∷ ts) = option_or (unsupported before last t.symbol t.text) (unsupported_from last t.symbol ts)

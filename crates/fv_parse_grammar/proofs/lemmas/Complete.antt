@@ -52,7 +52,7 @@ stops Rules (Open ∷ ts) = false
 stops (Parts kind) (Comma ∷ ts) = false
 stops items ts = true
 
--- what may stand behind a list
+-- what may follow a list
 abbrev pub Ends : Items → List Symbol → Type 0
 Ends (Parts kind) rest = (stops (Parts kind) rest ≡ true) × (9 < power_at kind commas.Separate rest)
 Ends items rest = stops items rest ≡ true

@@ -90,7 +90,7 @@ pub data Spells : Level → List Symbol → Tree → List Symbol → Type 0 wher
   rule : {ts mid rest : List Symbol} {ps x : Tree}
       → Spells (Listed (Parts operands.Patterns)) ts ps (Close ∷ Arrow ∷ mid) → Spells Expression mid x (Semicolon ∷ rest)
       → Spells OneRule (Open ∷ ts) (Rule (length (Open ∷ ts)) ps x) rest
-  -- an expression: any phrase, and any number of "with" "{" definitions "}" behind it
+  -- an expression: any phrase, and any number of "with" "{" definitions "}" after it
   plain : {ts rest : List Symbol} {x : Tree} → Spells (Phrase operands.Expressions commas.Join 8) ts x rest → Spells Expression ts x rest
   qualified : {ts mid rest : List Symbol} {x y : Tree}
       → Spells Expression ts x (With ∷ OpenBrace ∷ mid) → Spells (Further Definitions) mid y (CloseBrace ∷ rest)

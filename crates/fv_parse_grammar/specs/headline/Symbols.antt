@@ -11,7 +11,7 @@ use Rattle.fv_parse_grammar.specs.declared.symbol.Commas.{Commas}
 use Rattle.fv_parse_grammar.specs.declared.symbol.Operands.TheVariants as operands
 use Rattle.fv_parse_grammar.specs.declared.symbol.Commas.TheVariants as commas
 
--- how an operator of expressions powers: in a pattern it ends what stands before it
+-- how loosely an operator of expressions binds: in a pattern it ends what stands before it
 abbrev pub outside : Operands → ℕ → ℕ
 outside operands.Patterns r = 99
 outside operands.Expressions r = r
