@@ -9,7 +9,7 @@ pub record Hooks (W S : Type 0) : Type 0 where
   pub leaf : Leaf → List W → S → W × S
   pub opened : ℕ → S → List W × S
   pub closed : List W → S → List W × S
-  -- a wire that counts from 0 on, modulo so many
+  -- a wire that counts from 0 on, modulo a number
   pub counted : ℕ → S → W × S
   -- a table of these numbers, which is written or read alone
   pub tabled : Bool → List ℤ → List W → S → W × S

@@ -46,12 +46,17 @@ pub enum ControlKind {
     NEntry,
 }
 
-/// A control: its kind, its label, its initial value and the least and the greatest one.
+/// A control of a program.
 #[derive(Debug, Drop)]
 pub struct ControlInfo {
+    /// Which of the five kinds it is.
     pub kind: ControlKind,
+    /// The bytes of its label, without quotes.
     pub label: Label,
+    /// The value before any change.
     pub init: i32,
+    /// The least value.
     pub min: i32,
+    /// The greatest value.
     pub max: i32,
 }

@@ -30,7 +30,7 @@ pub enum Task<W: Copy + Drop> {
     Deal { to: u64 },
     /// Adds them up.
     Sum { to: u64 },
-    /// Puts others behind them.
+    /// Puts others after them.
     Before { ins: VecDeque<W> },
     /// Ends the innermost feedback.
     Close,
@@ -218,7 +218,7 @@ fn joined<W: Copy + Drop>(front: VecDeque<W>, back: VecDeque<W>) -> Result<VecDe
     Ok(front)
 }
 
-// The first wires, so many, and the others, where those of the shorter list are moved.
+// The first `count` wires, and the others. The wires of the shorter list are moved.
 fn split<W: Copy + Drop>(
     alloc: Global,
     wires: VecDeque<W>,
@@ -243,7 +243,7 @@ fn split<W: Copy + Drop>(
     Ok((first, wires))
 }
 
-// So many wires, of which number i is number i modulo the length.
+// `count` wires, of which number i is number i of `from` modulo its length.
 fn deal<W: Copy + Drop>(
     alloc: Global,
     from: &VecDeque<W>,
@@ -361,7 +361,7 @@ fn waveform<S: Signals>(
     Ok(all)
 }
 
-// The same, from one list of wires to another.
+// The wires of `count` sums, of which number j is that of the terms i with i modulo `count` equal to j.
 fn sums<S: Signals>(
     signals: &mut S,
     alloc: Global,
@@ -378,7 +378,7 @@ fn sums<S: Signals>(
     Ok(VecDeque::from_vec(all))
 }
 
-// Adds wires up to so many.
+// Adds each term i to the sum i modulo `count`.
 fn add_up<S: Signals>(
     signals: &mut S,
     alloc: Global,

@@ -51,8 +51,8 @@ pub trait Signals {
         ensures keeps { OnOk result (Keeps (is_wire self.old) (is_wire self.new)) }
         ensures fed { OnOk result (fed self.new ≡ fed self.old) };
 
-    /// The wire of a table of these numbers, which is read at one wire, or where it `writes` is written at the first of three
-    /// wires, takes the second, and is then read at the third.
+    /// The wire of a table of these numbers, which is read at the index that its one wire carries. One that `writes` has three
+    /// wires: where to write, what to write, and where to read after that.
     fn table(
         &mut self,
         alloc: Global,
@@ -68,7 +68,7 @@ pub trait Signals {
         ensures keeps { OnOk result (Keeps (is_wire self.old) (is_wire self.new)) }
         ensures fed { OnOk result (fed self.new ≡ fed self.old) };
 
-    /// Begins a feedback of so many wires.
+    /// Begins a feedback of `count` wires, and returns the wires that carry what is fed back.
     fn open(&mut self, alloc: Global, count: u64) -> Result<Vec<Self::Wire>, AllocError>
         ensures done { IfOk result (λ v. (v.items, self.new) ≡ hooks.opened count self.old) }
         ensures width { IfOk result (λ v. length v.items ≡ count) }
@@ -76,7 +76,7 @@ pub trait Signals {
         ensures keeps { OnOk result (Keeps (is_wire self.old) (is_wire self.new)) }
         ensures fed { OnOk result (fed self.new ≡ count ∷ fed self.old) };
 
-    /// Ends the innermost feedback, to which the first ones of these wires are fed back. What it gives are the wires outside.
+    /// Ends the innermost feedback, where the first of these wires are fed back. Returns the wires for what stands outside.
     fn close(&mut self, alloc: Global, outs: &[Self::Wire]) -> Result<Vec<Self::Wire>, AllocError>
         requires fed { (n : ℕ) × (rest : List ℕ) × (fed self.old ≡ n ∷ rest) × (n ≤ length outs.now) }
         requires wires { All (is_wire self.old) outs.now }

@@ -41,7 +41,7 @@ narrowed l k x m n r h s d = record {
   kept = λ i g o. d.kept i (omega arith) o ∙ s i;
 }
 
--- ---- the second takes what the first gives, behind all others
+-- ---- the second takes what the first gives, after all others
 abbrev pub after : Action → Action → Action
 after x y = record { from = x.from; takes = x.takes; to = y.to; gives = y.gives; turned = λ u. y.turned (x.turned u) }
 

@@ -89,7 +89,7 @@ pub record IsOver (a : Arena) (id x y : ℕ) (d : Diagram) : Type 0 where
 pub over_two : {a : Arena} {id x y : ℕ} {d : Diagram} → tree_of a id ≡ d → (x < id) × (y < id) → id < count_of a → IsOver a id x y d
 over_two is below there = record { is = is; left = omega (arith, below.0, there); right = omega (arith, below.1, there) }
 
--- so many numbers came, from place `at` on
+-- N numbers came, from place `at` on
 pub record HasRoom (at count : ℕ) (ns ms : List ℤ) : Type 0 where
   pub here : at ≡ length ns
   pub long : length ms ≡ length ns + count
@@ -99,7 +99,7 @@ pub has_room : {at k count : ℕ} {ns ms : List ℤ} → at ≡ length ns → le
     → ((i : ℕ) → argument ms i ≡ argument ns i) → HasRoom at count ns ms
 has_room {ns = ns} here long many stays = record { here = here; long = long ∙ ap (λ n. length ns + n) many; stays = stays }
 
--- ---- one behind the other
+-- ---- one after the other
 pub seq_turn : {a : Arena} {id x y from to at : ℕ} {ts : List Task} {ns ms : List ℤ} → IsOver a id x y (Seq (tree_of a x) (tree_of a y))
     → HasRoom at (outputs (tree_of a x)) ns ms → IsReady a (task.Visit id from to ∷ ts) ns
     → Advances a (task.Visit id from to ∷ ts) ns (task.Visit x from at ∷ task.Visit y at to ∷ ts) ms
@@ -158,12 +158,12 @@ par_turn {a} {id} {x} {y} {from} {to} {next} {behind} {ts} {ns} over enters leav
     both (inl b) = inl (omega (arith, b, enters))
     both (inr b) = inr (omega (arith, b, leaves))
 
--- ---- one behind the other, and numbers dealt or added up between them
+-- ---- one after the other, and numbers dealt or added up between them
 -- a step in place
 abbrev step_at : (at count many : ℕ) → (Frame → Frame) → Action
 step_at at count many f = record { from = at; takes = count; to = at; gives = many; turned = f }
 
--- a diagram, a step in place behind it, and then another diagram, on numbers to which others may have come
+-- a diagram, a step in place after it, and then another diagram, on numbers to which others may have come
 in_turn : (l k from at to : ℕ) (x y : Diagram) (f : Frame → Frame) → ((u : Frame) → length (f u) ≡ inputs y) → l ≤ at → l ≤ k
     → (m n o r : ℕ → ℤ) → Does k (whole x from at) m n → Does k (step_at at (outputs x) (inputs y) f) n o → Does k (whole y at to) o r
     → Does l (after (after (whole x from at) (step_at at (outputs x) (inputs y) f)) (whole y at to)) m r

@@ -14,7 +14,7 @@ use fv_diagram::{
 use fv_diagram_runner::Stepper;
 use std::alloc::{AllocError, Global};
 
-/// The first number that a diagram gives at time 0, which depends on nothing and gives two streams.
+/// The number that a diagram gives at time 0 in its first stream. It depends on nothing and gives two streams.
 pub fn first_of(alloc: Global, diagrams: &Diagrams, head: DiagramId) -> Result<i32, AllocError>
     requires inside { head < count_of diagrams.now }
     requires composed { IsComposed (tree_of diagrams.now head) }
@@ -22,6 +22,8 @@ pub fn first_of(alloc: Global, diagrams: &Diagrams, head: DiagramId) -> Result<i
     requires two { outputs (tree_of diagrams.now head) ≡ 2 }
     ensures { IfOk result (λ n. n ≡ argument (at_first (tree_of diagrams.now head)) 0) }
 {
+    // For the prover: a diagram whose compositions hold is well formed, so it can run; and what depends on nothing answers alike on
+    // any streams.
     composed_is_well();
     answers_alike();
     let mut stepper = Stepper::new(alloc, diagrams, head)?;
@@ -30,7 +32,7 @@ pub fn first_of(alloc: Global, diagrams: &Diagrams, head: DiagramId) -> Result<i
     Ok(out[0])
 }
 
-/// So many numbers of its second stream, from time 0 on.
+/// The first `count` numbers of the second stream that a diagram gives, which depends on nothing and gives two.
 pub fn numbers(
     alloc: Global,
     diagrams: &Diagrams,
@@ -44,6 +46,8 @@ pub fn numbers(
     ensures numbers { IfOk result (λ v. v.items ≡ table_numbers count (tree_of diagrams.now head)) }
     ensures many { IfOk result (λ v. length v.items ≡ count) }
 {
+    // For the prover: a diagram whose compositions hold is well formed, so it can run; what depends on nothing answers alike on any
+    // streams, with one frame for each frame; and one frame more adds one to the answer and leaves the others.
     composed_is_well();
     answers_alike();
     answers_each();

@@ -1,5 +1,5 @@
-// The value of a timeless diagram without inputs, found node by node: numbers stand side by side, and each diagram takes
-// some of them and writes others.
+// The value of a timeless diagram without inputs, found node by node. Numbers stand side by side; each diagram takes some of them
+// and writes others.
 
 ghost use Rattle.std.specs.Prelude.{◌≡◌, ◌+◌, ◌<◌, ◌≤◌, ◌∷◌, ℕ, length, reverse, true, slice_set, IfOk, OnOk};
 ghost use Rattle.fv_num.specs.headline.Words.{argument, apply_of, inputs_of};
@@ -216,7 +216,7 @@ fn write(numbers: &mut [i32], to: usize, n: i32)
     numbers[to] = n;
 }
 
-// Appends numbers 0, and says where they begin.
+// Appends zeros and returns the index where they begin.
 fn extend(numbers: &mut Vec<i32>, count: usize) -> Result<usize, AllocError>
     ensures place { IfOk result (λ at. at ≡ length numbers.old.items) }
     ensures length { OnOk result (length numbers.new.items ≡ length numbers.old.items + count) }

@@ -139,7 +139,7 @@ abbrev pub IsShut : List Loop → ℕ → Type 0
 IsShut [] k = Unit {0}
 IsShut (l ∷ ls) k = ((k < l.first) ⊎ (l.first + l.count ≤ k)) × IsShut ls k
 
--- a cell behind those of all feedbacks
+-- a cell after those of all feedbacks
 shut_past : (ls : List Loop) (n k : ℕ) → n ≤ k → All (λ l. l.first + l.count ≤ n) ls → IsShut ls k
 shut_past [] n k h g = tt
 shut_past (l ∷ ls) n k h g =

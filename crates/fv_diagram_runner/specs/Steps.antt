@@ -28,22 +28,21 @@ step_value control input cell recall register (step.Write w x r list) = recall (
 abbrev pub recalled : List ℤ → ℤ → ℤ → ℤ
 recalled past now d = back (argument (past ++ now ∷ [])) (length past) d
 
--- what the lists recall: the number that register x had, a list's number at an index, and the same where a number was written
--- before
+-- what the lists recall: the number that register x had, or a list's number at an index, where one may first be written
 abbrev pub in_lists : List (List ℤ) → (register : ℕ → ℤ) → Step → ℤ
 in_lists lists register (step.Back x d list) = recalled (get_or lists list []) (register x) (register d)
 in_lists lists register (step.Read r list) = read_at (get_or lists list []) (register r)
 in_lists lists register (step.Write w x r list) = read_at (written (get_or lists list []) (register w) (register x)) (register r)
 in_lists lists register _ = pos 0
 
--- the same, where register w has the stream v w and each list had those numbers at first
+-- what the lists recall at time t, where register w has the stream v w and each list had the numbers of begun at first
 abbrev pub in_streams : (begun : List (List ℤ)) → (v : ℕ → Stream) → ℕ → Step → ℤ
 in_streams begun v t (step.Back x d list) = back (v x) t (v d t)
 in_streams begun v t (step.Read r list) = read_at (get_or begun list []) (v r t)
 in_streams begun v t (step.Write w x r list) = written_at (get_or begun list []) (v w) (v x) t (v r t)
 in_streams begun v t _ = pos 0
 
--- the registers, one for each step, behind those of the steps before them
+-- the registers, one for each step, after those of the steps before them
 abbrev pub registers : (control input cell : ℕ → ℤ) → List (List ℤ) → List ℤ → List Step → List ℤ
 registers control input cell lists now [] = now
 registers control input cell lists now (s ∷ ss) =
@@ -71,7 +70,7 @@ listed v n T (change.Append w) = T ++ table n (v w)
 listed v n T change.Keep = T
 listed v n T (change.Put w x) = after T (v w) (v x) n
 
--- the same of each list
+-- what each list has after n frames, where register w has the stream v w and the lists had the numbers of begun at first
 abbrev pub all_listed : (ℕ → Stream) → ℕ → (begun : List (List ℤ)) → List Change → List (List ℤ)
 all_listed v n begun changes = table (length changes) (λ k. listed v n (get_or begun k []) (get_or changes k (change.Append 0)))
 
@@ -86,7 +85,7 @@ OperandsBelow i (step.Back x d list) = (x < i) × (d < i)
 OperandsBelow i (step.Read r list) = r < i
 OperandsBelow i (step.Write w x r list) = (w < i) × (x < i) × (r < i)
 
--- and so does each
+-- each step reads earlier registers
 abbrev pub AreOrdered : List Step → Type 0
 AreOrdered ss = (i : ℕ) (d : Step) → i < length ss → OperandsBelow i (slice_index_or ss i d)
 

@@ -23,16 +23,24 @@ pub struct Loop {
     pub count: u64,
 }
 
-/// Steps, the registers that the cells take, the lists and how they change, and the feedbacks that are open, the innermost one first.
+/// The code of a runner while a walk over the diagram adds to it. Step i gives the number of register i.
 #[derive(Drop)]
 pub struct Draft {
+    // What each register is computed from; a step reads registers of earlier ones alone.
     steps: Vec<Step>,
+    // By cell: the register whose number it takes at the end of a frame.
     sources: Vec<u64>,
+    // By list: what is done to it at the end of a frame.
     changes: Vec<Change>,
+    // By list: its numbers before the first frame.
     lists: Vec<History>,
+    // The feedbacks that are open, the innermost one first.
     loops: VecDeque<Loop>,
+    // How many controls the steps may read: the first ones.
     controls: u64,
+    // How many inputs the diagram has.
     ins: u64,
+    // Where the lists take their memory.
     alloc: Global,
 }
 
@@ -112,7 +120,7 @@ impl Draft {
         })
     }
 
-    // Adds a step, and says which register it has.
+    // Adds a step and returns its register.
     fn put_step(&mut self, step: Step) -> Result<u64, AllocError>
         requires operands { OperandsBelow (length self.old.steps) step }
         requires within { ReadsWithin self.old.controls self.old.ins (length self.old.sources) (length self.old.changes) step }
@@ -176,7 +184,8 @@ impl Draft {
         self.put_step(Step::Read { r, list })
     }
 
-    // The same, where register `x` is written at register `w`.
+    // Adds a list of these numbers, where register `x` is written at the index of register `w`, and a step that then reads it at
+    // the index of register `r`.
     fn put_write(&mut self, values: &[i32], w: u64, x: u64, r: u64) -> Result<u64, AllocError>
         requires some { 1 ≤ length values.now }
         requires w { IsRegister self.old w }
@@ -227,7 +236,7 @@ fn put_change(changes: &mut Vec<Change>, change: Change)
     let _ = changes.push(change);
 }
 
-/// The registers of so many inputs.
+/// The registers of `count` inputs: from 1 on, since register 0 has the number 0.
 pub fn input_registers(alloc: Global, count: u64) -> Result<Vec<u64>, AllocError>
     ensures { IfOk result (λ v. v.items ≡ table count (λ i. 1 + i)) }
 {
@@ -238,7 +247,7 @@ pub fn input_registers(alloc: Global, count: u64) -> Result<Vec<u64>, AllocError
     Ok(all)
 }
 
-// So many numbers 0.
+// `count` zeros.
 fn zeros(alloc: Global, count: usize) -> Result<Vec<i32>, AllocError>
     ensures { IfOk result (λ v. v.items ≡ replicate count (pos 0)) }
 {

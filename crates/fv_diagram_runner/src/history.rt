@@ -115,7 +115,7 @@ impl History {
     }
 }
 
-// The place that an index means in a list of so many numbers.
+// The place that an index means in a list of `count` numbers: its own, or the nearest one.
 fn place(count: usize, index: i32) -> usize
     requires { 1 ≤ count }
     ensures is { result ≡ place_of count index }

@@ -15,17 +15,26 @@ use fv_diagram::{DiagramId, Diagrams, walk};
 use std::alloc::{AllocError, Global};
 use std::marker::Model;
 
-/// A runner, which keeps one cell for each wire that is delayed by one frame, and a list of numbers for each other delay.
+/// A runner of a diagram. It keeps a cell for each wire that is delayed by one frame, and a list of numbers for each other delay.
 #[derive(Drop)]
 pub struct Stepper {
+    // What each register is computed from, in order.
     pub(crate) steps: Vec<Step>,
+    // By cell: the register whose number it takes at the end of a frame.
     pub(crate) sources: Vec<u64>,
+    // By list: what is done to it at the end of a frame.
     pub(crate) changes: Vec<Change>,
+    // The registers of the outputs, in order.
     pub(crate) outs: Vec<u64>,
+    // How many controls the steps may read: the first ones.
     pub(crate) controls: u64,
+    // How many inputs the diagram has.
     pub(crate) ins: u64,
+    // By cell: the number that the steps read, which its source had a frame before; 0 at first.
     pub(crate) cells: Vec<i32>,
+    // The numbers of each list so far.
     pub(crate) lists: Vec<History>,
+    // By step: its number in the last frame that ran, 0 before any.
     pub(crate) registers: Vec<i32>,
 }
 

@@ -8,7 +8,7 @@ pub fn answers_hold()
     ensures { (d : Diagram) → AnswersHold d }
 {}
 
-/// And at each `@` the second input lies in its span.
+/// At each `@` the second input lies in its span while no input, control or slot leaves its own.
 pub fn delays_hold()
     ensures { (d : Diagram) → AllDelaysHold d }
 {}

@@ -10,7 +10,7 @@ use std::alloc::{AllocError, AllocFailed};
 pub enum DelayRefusal {
     /// An `@` may be asked for a negative delay: this is the least number in its span.
     DelayNegative { least: i32 },
-    /// Or for one above the limit: this is the greatest number in that span.
+    /// An `@` may be asked for a delay above the limit: this is the greatest number in its span.
     DelayTooLong { greatest: i32 },
     /// The sum of all delays is over the limit.
     DelayBudget { sum: u64 },

@@ -14,8 +14,8 @@ use std::alloc::{AllocError, Global};
 use std::collections::VecDeque;
 use std::marker::Model;
 
-/// The spans of the controls and those of the delays so far, in the order of the walk, and how many wires each open
-/// feedback feeds back, the innermost one first.
+/// What a walk found so far: the spans of the controls, and those of the delays in the order of the walk. It also has how many
+/// wires each open feedback feeds back, the innermost one first.
 #[derive(Drop)]
 pub struct Walked {
     controls: Vec<Span>,
@@ -71,7 +71,7 @@ impl Walked {
         }
     }
 
-    // Notes so many delays by one frame.
+    // Notes `count` delays by one frame.
     fn note_ones(&mut self, count: u64) -> Result<(), AllocError>
         ensures { OnOk result (self.new ≡ noted_ones self.old count) }
     {
@@ -82,7 +82,7 @@ impl Walked {
     }
 }
 
-/// So many full spans.
+/// `count` full spans.
 pub fn full_spans(alloc: Global, count: u64) -> Result<Vec<Span>, AllocError>
     ensures { IfOk result (λ v. v.items ≡ table count (λ i. full)) }
 {

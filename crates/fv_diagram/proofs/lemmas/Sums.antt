@@ -65,7 +65,7 @@ every_append {A} n j i (x ∷ xs) ys =
       | false ↦ h
     ]
 
--- the first term of sum j is item j, and the others are behind the first n items
+-- the first term of sum j is item j, and the others are after the first n items
 pub every_front : {A : Type 0} (n j : ℕ) (d : A) (xs : List A) → j < n → n ≤ length xs → every n j 0 xs ≡ get_or xs j d ∷ every n j n (drop n xs)
 every_front n j d xs l m =
     let long : length (take n xs) ≡ n = length-take-le n xs m in

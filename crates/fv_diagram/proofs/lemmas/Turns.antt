@@ -83,7 +83,7 @@ module _ {W S : Type 0} (R : Rules W S) where
     smaller = w;
   }
 
-  -- the wires of the tasks behind, and of the binds, in later signals
+  -- the wires of the tasks after, and of the binds, in later signals
   pub tail_kept : (t : Task W) (ts : List (Task W)) (plugs : List (Plug W)) (now : List W) (s q : S) → Ready (t ∷ ts) plugs now s →
       Keeps (R.is_wire s) (R.is_wire q) → AreKept (R.is_wire q) ts
   tail_kept t ts plugs now s q r k = kept_in _ _ k ts r.kept.1

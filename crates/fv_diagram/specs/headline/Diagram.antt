@@ -4,8 +4,8 @@ use Rattle.std.specs.Prelude.{ℕ, suc, ◌+◌, ◌-◌, ℤ, Bool, true, false
 pub use Rattle.fv_num.specs.headline.Primitives.{primitive_inputs, primitive_outputs, is_table_primitive}
 use Rattle.fv_num.specs.declared.primitive.Primitive.{Primitive as Prim}
 
--- a leaf (primitive, number, control, slot, waveform or table, these two with their numbers), a body in which a slot is bound,
--- or one of the five compositions
+-- a leaf, a body in which a slot is bound, or one of the five compositions. A leaf is a primitive, a number, a control, a slot, or
+-- a waveform or table with its numbers.
 pub data Diagram : Type 0 where
   Primitive : (primitive : Prim) → Diagram
   Constant : (value : ℤ) → Diagram
@@ -59,7 +59,7 @@ size (Merge a b) = 1 + size a + size b
 size (Rec a b) = 1 + size a + size b
 size _ = 1
 
--- `rdtable` or `rwtable` occurs, which becomes a table where it is put behind the numbers of one
+-- `rdtable` or `rwtable` occurs, which becomes a table where it is put after the numbers of one
 abbrev pub has_table_primitive : Diagram → Bool
 has_table_primitive (Primitive p) = is_table_primitive p
 has_table_primitive (Bind s a) = has_table_primitive a

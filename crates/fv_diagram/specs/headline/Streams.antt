@@ -76,7 +76,7 @@ abbrev pub fed_back : ℕ → List Frame → List Frame
 fed_back n Y = replicate n (pos 0) ∷ map (take n) Y
 
 -- The answer of A~B, from the answers of A and of B, where B has n inputs. The frames come with the last one first:
--- where x comes behind X, take the answer Y on X, and F, which B answers on what is fed back of Y. One frame is added
+-- where x comes after X, take the answer Y on X, and F, which B answers on what is fed back of Y. One frame is added
 -- to Y: the last that A answers on F beside all frames up to x.
 abbrev pub feedback : (List Frame → List Frame) → (List Frame → List Frame) → ℕ → List Frame → List Frame
 feedback A B n [] = []

@@ -11,8 +11,8 @@ use Rattle.fv_diagram.specs.declared.pending.Plug.{Plug}
 use Rattle.fv_diagram.specs.Hooks.{Hooks, Keeps}
 use Rattle.fv_diagram.specs.Walked.{walked, summed}
 
--- What a walk goes by: what the calls of the signals do, what holds of wires, how many wires each open feedback feeds
--- back, the wire of a slot that is not bound, and the diagrams.
+-- What a walk goes by: what the calls of the signals do, what holds of wires, and how many wires each open feedback feeds back. It
+-- also has the wire of a slot that is not bound, and the diagrams.
 pub record Rules (W S : Type 0) : Type 1 where
   pub hooks : Hooks W S
   pub is_wire : S → W → Type 0
@@ -45,7 +45,7 @@ finished h free ns (task.Close ∷ ts) plugs now s =
     let r = h.closed now s in finished h free ns ts plugs r.0 r.1
 finished h free ns (task.Unplug ∷ ts) plugs now s = finished h free ns ts (drop 1 plugs) now s
 
--- what the tasks ask, where so many wires are there, and the open feedbacks feed back so many each
+-- what the tasks ask, where n wires are there, and each open feedback feeds back the number of wires that fed has for it
 abbrev pub AreReady : {W : Type 0} → Arena → List (Task W) → (fed : List ℕ) → ℕ → Type 0
 AreReady ns [] fed n = Unit {0}
 AreReady ns (task.Visit id ∷ ts) fed n =

@@ -17,7 +17,7 @@ abbrev pub parts : Diagram → List Diagram
 parts (Par a b) = parts a ++ parts b
 parts d = d ∷ []
 
--- the first parts, as few as have so many outputs together, and the others
+-- the first parts, as few as have this many outputs together, and the others
 abbrev pub cut : ℕ → List Diagram → List Diagram × List Diagram
 cut zero ds = ([], ds)
 cut (suc wanted) [] = ([], [])

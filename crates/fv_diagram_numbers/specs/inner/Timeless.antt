@@ -21,7 +21,7 @@ given (Split a b) x = given b (dealt (pos 0) (inputs b) (given a x))
 given (Merge a b) x = given b (merged (inputs b) (given a x))
 given d x = table (outputs d) (λ i. pos 0)
 
--- What a piece of work does: it takes so many numbers from one place on, and writes so many others from a place on.
+-- What a piece of work does: it takes numbers from one index on, and writes others from another index on.
 pub record Action : Type 0 where
   pub from : ℕ
   pub takes : ℕ

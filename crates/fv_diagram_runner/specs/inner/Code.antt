@@ -14,8 +14,8 @@ use Rattle.fv_diagram.specs.Hooks.{Hooks, padded}
 use Rattle.fv_diagram_runner.specs.History.{numbers_of}
 use Rattle.fv_diagram_runner.specs.Steps.{AreOrdered, ReadsWithin, IsKept, IsBegun, ChangesBelow}
 
--- The steps so far, the sources of the cells, how the lists change and what they have at first, the feedbacks that are open, the innermost one first,
--- and how many controls and inputs the steps may read.
+-- The steps so far, the sources of the cells, how the lists change and what they have at first. Then the open feedbacks, the
+-- innermost one first, and how many controls and inputs the steps may read.
 pub record Code : Type 0 where
   pub steps : List Step
   pub sources : List ℕ
@@ -57,7 +57,7 @@ code_of a = record {
 abbrev pub IsInside : Inside → Type 0
 IsInside a = IsCode (code_of a)
 
--- the code that takes n inputs: register 0 has the number 0, and the inputs have the registers behind it
+-- the code that takes n inputs: register 0 has the number 0, and the inputs have the registers after it
 abbrev pub input_code : ℕ → Code
 input_code n = record {
   steps = (step.Number (pos 0) ∷ []) ++ table n step.Input;
@@ -73,7 +73,7 @@ input_code n = record {
 abbrev pub with_step : Code → Step → Code
 with_step s a = record s { steps = s.steps ++ a ∷ [] }
 
--- the same, with the register that the step has
+-- the register of a step more, and the code with that step
 abbrev pub put : Code → Step → ℕ × Code
 put s a = (length s.steps, with_step s a)
 
@@ -97,7 +97,7 @@ put_back s x d = put (with_list s (change.Append x) []) (step.Back x d (length s
 abbrev pub put_read : Code → (T : List ℤ) → (r : ℕ) → ℕ × Code
 put_read s T r = put (with_list s change.Keep T) (step.Read r (length s.lists))
 
--- the same, where register x is written at register w
+-- a list more, of the numbers T, where register x is written at register w, and a step that then reads it at register r
 abbrev pub put_write : Code → (T : List ℤ) → (w x r : ℕ) → ℕ × Code
 put_write s T w x r = put (with_list s (change.Put w x) T) (step.Write w x r (length s.lists))
 
@@ -141,7 +141,7 @@ abbrev pub written : ℕ → List ℕ → List ℕ → List ℕ
 written i [] xs = xs
 written i (w ∷ ws) xs = written (suc i) ws (slice_set xs i w)
 
--- and ends when they take the registers that are fed back
+-- a feedback ends: its cells take the registers that are fed back
 abbrev pub shut : List Loop → List ℕ → Code → Code
 shut [] outs s = s
 shut (l ∷ ls) outs s = record s { sources = written l.first (take l.count outs) s.sources; loops = ls }

@@ -7,6 +7,6 @@ use Rattle.fv_diagram.specs.declared.control.ControlInfo.{ControlInfo}
 abbrev pub span_of : ControlInfo → Interval
 span_of c = record { lo = c.min; hi = c.max }
 
--- and those that each of them may have
+-- the numbers that each control may have, in the order of the controls
 abbrev pub spans_of : List ControlInfo → List Interval
 spans_of cs = map span_of cs

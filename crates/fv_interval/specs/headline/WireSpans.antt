@@ -49,7 +49,7 @@ abbrev pub summed_span : List Interval → Interval
 summed_span [] = point (pos 0)
 summed_span (x ∷ xs) = added_span x xs
 
--- the spans of the sums of a merge, where number j of n is that of the items i with i modulo n equal to j
+-- the n spans of the sums of a merge: span j is that of the sum of the items i with i modulo n equal to j
 abbrev pub merged_spans : ℕ → List Interval → List Interval
 merged_spans n I = table n (λ j. summed_span (every n j 0 I))
 

@@ -40,7 +40,7 @@ leaf_of (leaf.Point op) ins s = (span_of op ins, s)
 abbrev pub opened_of : ℕ → Noted → List Interval × Noted
 opened_of n s = (table n (λ i. full), record (noted_ones s n) { fed = n ∷ s.fed })
 
--- and gives its wires on
+-- a feedback ends: it gives its wires on, and is no longer open
 abbrev pub closed_of : List Interval → Noted → List Interval × Noted
 closed_of outs s = (outs, record s { fed = drop 1 s.fed })
 
