@@ -5,7 +5,7 @@ use Rattle.fv_components.specs.headline.Reach.{Links, at, Reaches}
 use Rattle.fv_components.specs.inner.Search.{State, class, IsStacked, IsReaching, IsHeld}
 use Rattle.fv_components.proofs.lemmas.Walks.{reaches_trans}
 
--- no class begins behind the last one
+-- no class begins after the last one
 pub no_later : (n : ℕ) (st : State) → IsStacked n st → (c : ℕ) → c < length st.classes → (class st c).first ≤ (class st (length st.classes - 1)).first
 no_later n st k c m = elim (cases_eq c (length st.classes - 1)) [
   | inl e ↦ subst (λ x. (class st c).first ≤ (class st x).first) e (omega arith)

@@ -47,7 +47,7 @@ impl Rows {
         }
     }
 
-    /// No rows, with room for so many and for as many numbers.
+    /// No rows, with room for `rows` rows and for as many numbers.
     pub fn with_capacity(alloc: Global, rows: u64) -> Result<Rows, AllocError>
         ensures { IfOk result (λ made. made ≡ []) }
     {
@@ -73,7 +73,7 @@ impl Rows {
         &self.numbers[start..end]
     }
 
-    /// One row more, behind the others.
+    /// Adds a row after the others.
     pub fn push(&mut self, row: &[u64]) -> Result<(), AllocError>
         ensures pushes { OnOk result (self.new ≡ self.old ++ row.now ∷ []) }
         ensures unchanged { OnErr result (self.new ≡ self.old) }

@@ -13,7 +13,7 @@ use std::alloc::{AllocError, Global};
 #[derive(Clone, Copy)]
 enum Mark {
     New,
-    // It stands at this place of the path.
+    // It stands at this index of the path.
     Open(u64),
     // It is of the component with this number.
     Done(u64),
@@ -26,13 +26,18 @@ struct Class {
     waiting: u64,
 }
 
-// A search along one path: what is known of each node, the path, its classes, the nodes that wait to be looked at, and how many components are done.
+// A search along one path.
 #[derive(Drop)]
 struct Search {
+    // By node: what is known of it.
     marks: Vec<Mark>,
+    // The nodes of the path. From each one there is a way to the next.
     path: Vec<u64>,
+    // The classes of the path, in its order. Each begins where the one before it ends.
     classes: Vec<Class>,
+    // The nodes that still have to be looked at, since a node of the path leads to them. The next one is last.
     pending: Vec<u64>,
+    // How many components are done. It is the number of the next one.
     count: u64,
 }
 
@@ -69,7 +74,7 @@ impl Search {
         Ok(())
     }
 
-    // Makes one class of those that begin behind a place with the one before them.
+    // Makes one class of those that begin after a place with the one before them.
     fn collapse(&mut self, place: u64)
         ensures { (m : ℕ) × IsCountUpTo self.old.classes.items place m × (state_of self.new ≡ collapsed (state_of self.old) m) }
     {

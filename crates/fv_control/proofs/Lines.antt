@@ -27,7 +27,7 @@ pub split_last : (p : ℕ → Bool) (xs : List ℕ) → position_or_len p xs ≡
 split_last p [] e = refl
 split_last p (x ∷ xs) e = last_at p x xs (p x) refl (split_last p xs) e
 
--- the first line, and those behind it
+-- the first line, and those after it
 pub first_line : (rest : List ℕ) (e : ℕ) → e ≡ position_or_len is_end rest → e ≤ length rest → (more : List (List ℕ)) × (lines_of rest ≡ take e rest ∷ more)
 first_line rest e p h =
     ⊎_elim (λ (w : e < length rest). (lines_of (drop (e + 1) rest), rw p (slice_split_first is_end rest 0 (omega arith))))
@@ -65,11 +65,11 @@ module _ {cs : List ControlInfo} {least n : ℕ} {front : List Change} {whole : 
         ∙ ap (λ m. (m >>= λ d. lines_say cs (least_behind least d) (n + 1) [] >>= λ ys. Ok (listed d ++ ys)) >>= λ x. Ok (front ++ x)) l.line
         ∙ ap (λ ys. Ok (front ++ ys)) (append-nil (listed c))
 
-    -- the lines behind it
+    -- the lines after it
     abbrev behind : List (List ℕ)
     behind = lines_of (drop (e + 1) rest)
 
-    -- a line, and then those behind it
+    -- a line, and then those after it
     pub goes_on : e < length rest → whole ≡ (lines_say cs (least_behind least c) (n + 1) behind >>= λ x. Ok ((front ++ listed c) ++ x))
     goes_on before =
         let p = l.place in

@@ -122,7 +122,7 @@ spelled_is_read line r s =
     labelled false e =
         rw (s.framed, take_at r.label (32 ∷ s.value) (length r.label) refl, behind r.label s.value, s.valued) refl
 
--- a list with a last space behind its first one
+-- a list with a last space after its first one
 cut_at_first : (line : List ℕ) (i : ℕ) → last_space (after_first is_space line) ≡ Some i → line ≡ before_first is_space line ++ 32 ∷ after_first is_space line
 cut_at_first line i e = elim (cases_lt (position_or_len is_space line) (length line)) [ inl l ↦ inside l | inr g ↦ absurd (outside g) ]
   where

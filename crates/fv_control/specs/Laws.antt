@@ -7,7 +7,7 @@ use Rattle.std.specs.List.{AllByRecursion}
 use Rattle.fv_control.specs.declared.script.Change.{Change}
 use Rattle.fv_control.specs.headline.Streams.{control_streams}
 
--- no change is behind frame f and at time t or before
+-- no change is after frame f and at time t or before
 abbrev pub NoneBetween : (f t : ℕ) → List Change → Type 0
 NoneBetween f t changes = AllByRecursion (λ c. f < c.frame → t < c.frame) changes
 
@@ -17,7 +17,7 @@ Hold =
     (changes : List Change) (initial : List ℤ) (k f t : ℕ) → f ≤ t → NoneBetween f t changes
     → control_streams changes initial k t ≡ control_streams changes initial k f
 
--- each change is at the frame of the one before it, or behind
+-- each change is at the frame of the one before it, or after
 abbrev pub NeverFall : ℕ → List Change → Type 0
 NeverFall least [] = Unit {0}
 NeverFall least (c ∷ cs) = (least ≤ c.frame) × NeverFall c.frame cs

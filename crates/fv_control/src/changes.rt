@@ -14,7 +14,7 @@ pub fn listen(changes: &[Change], at: usize, frame: usize, values: &mut [i32]) -
     ensures within { result ≤ length changes.now }
     // The values are those after all changes so far.
     ensures values { (initial : List ℤ) → values.old ≡ applied initial (take at changes.now) → values.new ≡ applied initial (take result changes.now) }
-    // The changes so far have come, and those behind them have not.
+    // The changes so far have come, and those after them have not.
     ensures come { AllByRecursion (λ c. c.frame ≤ frame) (take at changes.now) → AllByRecursion (λ c. c.frame ≤ frame) (take result changes.now) }
     ensures behind { NeverFall 0 changes.now → AllByRecursion (λ c. frame < c.frame) (drop result changes.now) }
 {

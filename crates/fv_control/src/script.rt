@@ -91,7 +91,7 @@ fn read_changes(
     }
 }
 
-// Appends the change of a line, if it says one; and the least frame behind it.
+// Appends the change of a line, if it says one; and the least frame after it.
 fn listen(
     line: &[u8],
     controls: &[ControlInfo],

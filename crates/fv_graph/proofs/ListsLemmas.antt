@@ -19,6 +19,6 @@ lists_push E xs v n h is = record { long = pushed xs v ∙ ap (λ k. k + 1) h.lo
     pushed [] v = refl
     pushed (x ∷ xs) v = ap suc (pushed xs v) ∙ omega arith
 
--- the edges of a task lie below those of the vector behind it
+-- the edges of a task lie below those of the vector after it
 pub below_next : (t loops stride vectors : ℕ) → t < vectors * loops → t / loops * stride + stride ≤ vectors * stride
 below_next t loops stride vectors h = further (t / loops) vectors stride (low_quotient t vectors loops h)

@@ -10,7 +10,7 @@ use Rattle.fv_outside.specs.declared.tasks.Task.{Task}
 use Rattle.fv_graph.specs.Words.{passing}
 use Rattle.fv_graph.specs.Net.{Net}
 
--- the pair behind the last one
+-- the pair after the last one
 abbrev pub no_reads : Reads
 no_reads = record { reader = 0; source = 0 }
 
@@ -22,7 +22,7 @@ pair_at g k = slice_index_or g.reads k no_reads
 abbrev pub stride : Tasks → ℕ
 stride g = g.loops + length g.reads
 
--- how many edges there are, with the exit edges behind the last vector
+-- how many edges there are, with the exit edges after the last vector
 abbrev pub edges_of : Tasks → ℕ
 edges_of g = g.vectors * stride g + g.loops
 

@@ -21,6 +21,6 @@ owed_of vs = map (λ v. v.items) vs
 abbrev pub owed_rooms : List (Vec ℕ) → List ℕ
 owed_rooms vs = map (λ v. vec_capacity v) vs
 
--- each has room for so many
+-- each list has room for n numbers
 abbrev pub HaveRoom : ℕ → List ℕ → Type 0
 HaveRoom n rooms = (w : ℕ) → w < length rooms → n ≤ get_or rooms w 0

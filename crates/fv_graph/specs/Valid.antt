@@ -33,7 +33,7 @@ pub record Valid (n : Net) (workers : ℕ) (arrived took : ℕ → ℕ) (amount 
   pub told : (t : ℕ) → took t ≡ total (runs_it t) s.runs + bit (is_done s t)
   pub in_all : amount ≡ total runs_some s.runs + total bit s.done
 
--- the same of a state alone: what has arrived, was taken, and how many were
+-- by a state alone: 1 where the inner edge e has arrived
 abbrev pub arrived_of : Net → Now → ℕ → ℕ
 arrived_of n s e = bit (n.is_inner e && is_done s (n.source e)) - total (times e) s.owes
 

@@ -63,7 +63,7 @@ pub(crate) fn deal(tasks: &Tasks, deques: &mut Vec<VecDeque<u64>>)
     }
 }
 
-// Empty deques, each with so much room.
+// `count` empty deques, each with room for `room` tasks.
 pub(crate) fn empty_deques(
     alloc: Global,
     count: usize,
@@ -79,7 +79,7 @@ pub(crate) fn empty_deques(
     Ok(deques)
 }
 
-// Empty lists, each with so much room.
+// `count` empty lists, each with room for `room` edges.
 pub(crate) fn empty_lists(
     alloc: Global,
     count: usize,
@@ -115,7 +115,7 @@ pub(crate) fn clear_lists(lists: &mut Vec<Vec<u64>>)
     }
 }
 
-// So many times the same.
+// A list of `count` times x.
 pub(crate) fn repeated<T: Copy>(alloc: Global, x: T, count: usize) -> Result<Vec<T>, AllocError>
     ensures { IfOk result (λ v. v.items ≡ replicate count x) }
 {

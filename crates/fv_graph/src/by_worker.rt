@@ -103,14 +103,14 @@ fn append(owed: &mut Vec<u64>, edges: &[u64])
     }
 }
 
-// Where a number stands first.
+// The index of the first occurrence of a number.
 fn place_of(owed: &[u64], edge: u64) -> Option<usize>
     ensures { result ≡ position (λ e. e == edge) owed.now }
 {
     owed.iter().position(|e| *e == edge)
 }
 
-// The first such number is taken out.
+// Removes the first occurrence of a number.
 fn take_out(owed: &mut Vec<u64>, edge: u64)
     ensures items { owed.new.items ≡ without edge owed.old.items }
     ensures room { vec_capacity owed.new ≡ vec_capacity owed.old }

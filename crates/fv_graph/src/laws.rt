@@ -13,8 +13,8 @@ pub fn edges_meet()
     ensures { (g : Tasks) → IsGraph g → IsWires (wires_of g) }
 {}
 
-/// What the edges mean: the inner edges into a task come from the tasks that it reads, one from each, and those out of it go
-/// to the tasks that read it, one to each.
+/// What the edges mean. The inner edges into a task come from the tasks that it reads, one from each. Those out of it go to the
+/// tasks that read it, one to each.
 pub fn edges_follow_reads()
     ensures { (g : Tasks) (t : ℕ) → IsGraph g → t < task_count g → ReadsLaw g t }
 {}

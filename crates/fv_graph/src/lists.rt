@@ -6,10 +6,10 @@ ghost use Rattle.fv_graph.specs.inner.Lists.{AreLists, edges_at, group_of};
 
 use std::alloc::{AllocError, Global};
 
-// So many edges at most are numbered.
+// The number that counts of edges stay below.
 const MOST_EDGES: u64 = 0x4000_0000_0000_0000;
 
-// Whether the edges of so many loops, pairs and vectors can be numbered.
+// Whether the edges of this many loops, pairs and vectors are few enough to be numbered.
 pub(crate) fn can_number(loops: u64, pairs: u64, vectors: u32) -> bool
     ensures { OnTrue result (vectors * (loops + pairs) + loops < 2 ^ 62) }
 {
@@ -38,7 +38,8 @@ fn edges_of(alloc: Global, chain: u64, base: u64, pairs: &[u64]) -> Result<Vec<u
     Ok(edges)
 }
 
-// For each task of so many vectors the edge of its own loop, `ahead` behind the one into it, and those of the pairs of its loop.
+// By task, for `vectors` vectors: the edge of its own loop, which is `ahead` after the edge into it, and then those of the pairs of
+// its loop. `stride` is the number of edges of a vector.
 pub(crate) fn lists_of(
     alloc: Global,
     loops: u64,

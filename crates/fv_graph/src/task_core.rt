@@ -23,20 +23,28 @@ use std::collections::VecDeque;
 use std::marker::Model;
 use std::snapshot::Snapshot;
 
-/// A state of the core: which tasks are done, run and ready, and what each worker owes.
+/// A state of the core. It takes all of its memory when it is made.
 #[derive(Drop)]
 pub struct Core {
+    // How many workers there are. They are numbered from 0.
     workers: u32,
+    // For how many tasks there is memory.
     room_tasks: u64,
+    // For how many edges there is memory.
     room_edges: u64,
-    // by task
+    // By task: how many inner edges into it have not arrived yet. It is ready at 0.
     counts: Vec<u64>,
+    // By task: whether it has run.
     done: Vec<bool>,
-    // by worker
+    // By worker: the ready tasks that it holds. It takes from the back, and thieves from the front.
     deques: Vec<VecDeque<u64>>,
+    // By worker: the task that it runs.
     runs: Vec<Option<u64>>,
+    // By worker: the inner edges that it owes to their readers, in the order in which they were put.
     owes: Vec<Vec<u64>>,
+    // By worker: whether it has left.
     left: Vec<bool>,
+    // The tasks that this is a state of, for the prover alone.
     seen: Snapshot<Tasks>,
 }
 

@@ -17,12 +17,17 @@ use std::marker::Model;
 /// The tasks of a block and their edges.
 #[derive(Drop)]
 pub struct Tasks {
+    // How many loops each vector has.
     loops: u64,
+    // How many vectors the block has, at least 1.
     vectors: u32,
+    // For how many vectors there is room.
     most: u32,
+    // Which loop reads lanes of which other, by reader and then by source.
     reads: Vec<Reads>,
-    // by task, for the most vectors
+    // By task, for the most vectors: the edges into it, in order.
     inward: Vec<Vec<u64>>,
+    // By task, for the most vectors: the edges out of it, in order.
     outward: Vec<Vec<u64>>,
 }
 
@@ -46,8 +51,8 @@ impl Model for Tasks {
 }
 
 impl Tasks {
-    /// The tasks of so many loops and vectors, and their edges, where the loops read lanes of one another as the pairs say. There
-    /// is room for so many vectors from then on. Want of memory is also the answer where a list of all edges could not be had.
+    /// The tasks of `loops` loops over `vectors` vectors, and their edges. `reads` says which loop reads lanes of which other.
+    /// There is room for `vectors` vectors from then on. Too many edges to number are answered as want of memory.
     pub fn new(
         alloc: Global,
         loops: u64,
@@ -125,7 +130,7 @@ impl Tasks {
         }
     }
 
-    /// The tasks, counts and edges are those for so many vectors from now on. It takes no memory.
+    /// Sets the number of vectors: tasks, counts and edges are those for it from now on. It takes no memory.
     pub fn set_vectors(&mut self, vectors: u32)
         requires some { 0 < vectors }
         requires room { vectors ≤ self.old.most }

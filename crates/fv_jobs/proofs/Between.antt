@@ -27,7 +27,7 @@ longer_line b l t h = record {
   first = λ rest. rw t (ap (onto_first b) (h.first rest));
 }
 
--- the lines of a file begin with l, and those behind it are ls: they are those of a rest, or there are none
+-- the lines of a file begin with l, and those after it are ls: they are those of a rest, or there are none
 record Ended (bytes l : List ℕ) (ls : List (List ℕ)) : Type 0 where
   rest : List ℕ
   is : bytes ≡ l ++ rest
@@ -144,7 +144,7 @@ joined_first : (b : ℕ) (ls : List (List ℕ)) → concat (onto_first b ls) ≡
 joined_first b [] = refl
 joined_first b (l ∷ ls) = refl
 
--- the lines, one behind another, are the file
+-- the lines, one after another, are the file
 joined : (bytes : List ℕ) → concat (lines_in bytes) ≡ bytes
 joined [] = refl
 joined (b ∷ bs) = go (is_feed b) (joined bs)
@@ -178,7 +178,7 @@ some_front (b ∷ bs) = some_line b (bs ++ 10 ∷ [])
 onto_both : (b : ℕ) (ls ms : List (List ℕ)) → HasFirst ls → onto_first b (ls ++ ms) ≡ onto_first b ls ++ ms
 onto_both b ls ms h = ap (λ ls. onto_first b (ls ++ ms)) h.is ∙ sym (ap (λ ls. onto_first b ls ++ ms) h.is)
 
--- whole lines, and those behind them
+-- whole lines, and those after them
 lines_both : (front rest : List ℕ) → lines_in ((front ++ 10 ∷ []) ++ rest) ≡ lines_in (front ++ 10 ∷ []) ++ lines_in rest
 lines_both [] rest = refl
 lines_both (b ∷ bs) rest = go (is_feed b) (lines_both bs rest)

@@ -85,7 +85,7 @@ more_jobs j cs jobs label first behind e f =
     ∙ ap (λ o. either o (option_map (λ i. length (labelled j cs) + i) (labelled_so (controls_from (j + 1) jobs) label))) e
     ∙ ap (λ o. either first (option_map (λ i. length (labelled j cs) + i) o)) f
 
--- the jobs behind a job have none of its labels
+-- the jobs after a job have none of its labels
 none_behind : (jobs : List (List ControlInfo)) (j k : ℕ) (label : List ℕ) → k < j → j + length jobs ≤ 2 ^ 64
     → labelled_so (controls_from j jobs) (label_of k label) ≡ None
 none_behind [] j k label h few = refl

@@ -29,7 +29,7 @@ not_true : (b : Bool) → (b ≡ true → ⊥) → b ≡ false
 not_true true f = absurd (f refl)
 not_true false f = refl
 
--- whether a control is among the n behind the first ones
+-- whether a control is among the n after the first ones
 abbrev is_own : (first n i : ℕ) → Bool
 is_own first n i = nat_le first i && nat_lt i (first + n)
 

@@ -68,7 +68,7 @@ from_place bytes at = take (length bytes - at) (drop at bytes)
 pub all_from : (bytes : List ℕ) (at : ℕ) → from_place bytes at ≡ drop at bytes
 all_from bytes at = take_all _ _ (omega (arith, length-drop at bytes))
 
--- a line that begins at a place, and the lines behind it
+-- a line that begins at a place, and the lines after it
 pub lines_from : (bytes line : List ℕ) (at : ℕ) → lines_in (from_place bytes at) ≡ line ∷ lines_in (drop (length line) (from_place bytes at))
     → lines_in (drop at bytes) ≡ line ∷ lines_in (drop (at + length line) bytes)
 lines_from bytes line at e =
@@ -76,7 +76,7 @@ lines_from bytes line at e =
     ∙ ap (λ (r : List ℕ). line ∷ lines_in (drop (length line) r)) (all_from bytes at)
     ∙ ap (λ (r : List ℕ). line ∷ lines_in r) (drop-drop (length line) at bytes)
 
--- it stands behind what stands before it
+-- it stands after what stands before it
 pub longer_front : (bytes line : List ℕ) (start at : ℕ) → start ≤ at → line ≡ take (length line) (from_place bytes at)
     → slice_range bytes start at ++ line ≡ slice_range bytes start (at + length line)
 longer_front bytes line start at h e =

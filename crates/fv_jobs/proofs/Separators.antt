@@ -64,7 +64,7 @@ not_ended : (s : List ℕ) → Bare s → IsEnded s → ⊥
 not_ended s (inl e) h = above_feed 37 (lit< tt) (ended_last (codes "%%") h.front 1 (sym e ∙ h.is) refl)
 not_ended s (inr e) h = above_feed 13 (lit< tt) (ended_last (codes "%%\r") h.front 2 (sym e ∙ h.is) refl)
 
--- A separating line with what is behind it: where it has no byte 10, that is nothing.
+-- A separating line with what follows it: where it has no byte 10, that is nothing.
 pub separator_line : (l rest : List ℕ) → is_separator l ≡ true → IsEnded l ⊎ (rest ≡ []) → lines_in (l ++ rest) ≡ l ∷ lines_in rest
 separator_line l rest e h =
     let s = strip_last 10 l in

@@ -21,7 +21,7 @@ pub record IsCut (file text rest : List ℕ) : Type 0 where
   pub separates : is_separator line ≡ true
   pub ended : IsEnded line ⊎ (rest ≡ [])
 
--- the file has just these texts, one behind another, with one separating line between each and the next
+-- the file has just these texts, one after another, with one separating line between each and the next
 abbrev pub HasJobs : List ℕ → List (List ℕ) → Type 0
 HasJobs file [] = ⊥
 HasJobs file (text ∷ []) = (file ≡ text) × IsOneJob text

@@ -9,7 +9,7 @@ two = refl
 none : jobs_in [] ≡ [] ∷ []
 none = refl
 
--- a last line that separates has an empty job behind it, whether or not it is ended
+-- a last line that separates has an empty job after it, whether or not it is ended
 last : (jobs_in (codes "a\n%%") ≡ codes "a\n" ∷ [] ∷ []) × (jobs_in (codes "a\n%%\n") ≡ codes "a\n" ∷ [] ∷ [])
 last = (refl, refl)
 

@@ -11,7 +11,7 @@ IsOfJobs (TextTooLong role) = Unit {0}
 IsOfJobs (RackSize jobs) = Unit {0}
 IsOfJobs NoMemory = ⊥
 
--- So many bytes of a file are read: one more than its limit shows that it is too long.
+-- how many bytes of a file are read: one more than its limit shows that it is too long
 abbrev pub bytes_read : ℕ
 bytes_read = LONGEST_TEXT + 1
 

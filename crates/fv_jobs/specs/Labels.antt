@@ -13,7 +13,7 @@ use Rattle.fv_jobs.specs.headline.Changes.{controls_before}
 abbrev pub labelled_so : List ControlInfo → List ℕ → Option ℕ
 labelled_so cs label = position (λ c. bytes_eq c.label label) cs
 
--- The label `k/g` is that of the control of job k that has the label g, behind the controls of the jobs before it.
+-- The label `k/g` is that of the control of job k that has the label g, after the controls of the jobs before it.
 abbrev pub LabelsAreFound : Type 0
 LabelsAreFound =
     (jobs : List (List ControlInfo)) (k : ℕ) (label : List ℕ) → length jobs < 2 ^ 64 → k < length jobs →
@@ -25,7 +25,7 @@ OthersAreNot =
     (jobs : List (List ControlInfo)) (label : List ℕ) → ((k : ℕ) (own : List ℕ) → k < length jobs → label ≡ label_of k own → ⊥) →
     labelled_so (controls_of jobs) label ≡ None
 
--- a change of a control so many places further on
+-- what a line says, with its control n places further on
 abbrev pub moved : (n : ℕ) → Result (Option Change) ScriptRefusal → Result (Option Change) ScriptRefusal
 moved n (Ok (Some c)) = Ok (Some (record c { control = n + c.control }))
 moved n (Ok None) = Ok None

@@ -8,7 +8,8 @@ pub fn jobs_are_between()
     ensures { AreBetween }
 {}
 
-/// A file of which no more than one byte past its limit was read is what is read of it.
+/// The bytes of a file up to one past the limit have the jobs, or the refusal, that the whole file has; where they are jobs, they are
+/// the whole file.
 pub fn front_is_enough()
     ensures same { FrontIsEnough }
     ensures whole { JobsAreWhole }

@@ -11,7 +11,7 @@ use std::alloc::{AllocError, AllocFailed};
 pub enum JobsRefusal {
     /// It has too many bytes.
     TextTooLong { role: Role },
-    /// It has too many jobs: so many.
+    /// It has too many jobs: `jobs` of them.
     RackSize { jobs: u64 },
     /// Memory ran out.
     NoMemory,

@@ -12,7 +12,7 @@ parts_of c = c.layout.now
 abbrev pub given_by : Cutter → ℕ
 given_by c = c.given
 
--- the cutter has given so many parts of these lengths, out of these cells
+-- The cutter has given the first parts of these lengths, out of these cells.
 pub record IsCutter (lengths : List ℕ) (given : ℕ) (cells : List ℤ) (cutter : Cutter) : Type 0 where
   pub lengths_are : parts_of cutter ≡ lengths
   pub given_are : given_by cutter ≡ given

@@ -1,7 +1,7 @@
 -- A row of cells of which the front is shared for good and the rest is owned.
 --     cell_after p n          where the cell lies that comes n cells after p
---     ends_as γ xs      the loan named γ ends with the list xs behind it
---     ties γ δ xs       where the loan δ ends with ws behind it, the loan γ ends with xs ++ ws
+--     ends_as γ xs      the loan named γ ends with the list xs after it
+--     ties γ δ xs       where the loan δ ends with ws after it, the loan γ ends with xs ++ ws
 --     halves γ γ₁ γ₂    where γ₁ ends with xs and γ₂ with ys, γ ends with xs ++ ys
 use Rattle.std.specs.Prelude.{ℕ, ◌+◌, ◌*◌, List, ◌++◌}
 use lib.IntN.{ℤ}

@@ -12,7 +12,7 @@ left_of u = u.cells.now
 abbrev pub loan_of : Uncut → GName
 loan_of u = u.cells.ghost_name
 
--- so many cells were cut off: the loan of what was left became that of the part and that of the rest
+-- The first len cells were cut off: the loan of what was left became that of the part and that of the rest.
 pub record IsCut (old new : Uncut) (len : ℕ) (p : Part) : Type 0 where
   pub count : p.len ≡ len
   pub cells : p.cells.items ≡ take len (left_of old)

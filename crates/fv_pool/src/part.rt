@@ -72,7 +72,7 @@ impl<'a> Uncut<'a> {
         self.cells.is_empty()
     }
 
-    /// The next so many cells, as they are.
+    /// Cuts off the next `len` cells, as they are.
     pub fn next(&mut self, len: usize) -> Part<'a>
         requires { len ≤ length (left_of self.old) }
         ensures { IsCut self.old self.new len result }

@@ -18,7 +18,7 @@ impl Region {
     ghost use Rattle.fv_pool.specs.Region.{cells_of, LendsCells, LendsParts};
     ghost use Rattle.fv_pool.specs.Parts.{IsCutter};
 
-    /// So many zeros.
+    /// A region of `len` zeros.
     pub fn new(alloc: Global, len: u64) -> Result<Region, AllocError>
         ensures { IfOk result (λ region. cells_of region ≡ replicate len (pos 0)) }
     {

@@ -29,8 +29,8 @@ pub struct Feedback {
     pub count: u64,
 }
 
-/// A graph so far, the delays that are still to come, in the order of the walk, and the feedbacks that are open, the
-/// innermost one first.
+/// What a walk made so far: a graph, and the feedbacks that are open, the innermost one first. It also has the greatest number of
+/// samples of each delay that is still to come, in the order of the walk.
 #[derive(Drop)]
 pub struct Progress {
     builder: Builder,
@@ -67,7 +67,7 @@ impl Progress {
         })
     }
 
-    /// The signals of so many inputs.
+    /// Puts `count` inputs and returns their signals.
     pub fn inputs(&mut self, alloc: Global, count: u64) -> Result<Vec<SignalId>, AllocError>
         ensures { IfOk result (λ v. (v.items, self.new) ≡ puts Input count self.old) }
     {
@@ -100,7 +100,8 @@ impl Progress {
         Ok(id)
     }
 
-    // Takes the next delay.
+    // Takes the greatest number of samples of the next delay. There is one for each call, in the order of the calls, where the walk
+    // over the spans noted them; else it is 0.
     fn next_delay(&mut self) -> u32
         ensures delay { result ≡ get_or self.old.delays 0 0 }
         ensures rest { self.new ≡ record self.old { delays = drop 1 self.old.delays } }
@@ -211,7 +212,7 @@ impl Progress {
         }
     }
 
-    // Lets so many delays pass.
+    // Takes the next `count` delays, and forgets them.
     fn pass(&mut self, count: u64)
         ensures { self.new ≡ passed count self.old }
     {
@@ -320,7 +321,7 @@ impl Progress {
         Ok(())
     }
 
-    // Begins a feedback of so many wires.
+    // Begins a feedback of `count` wires, and returns the Backs that carry what is fed back.
     fn begin(&mut self, alloc: Global, count: u64) -> Result<Vec<SignalId>, AllocError>
         ensures { IfOk result (λ v. (v.items, self.new) ≡ opened_of count self.old) }
     {

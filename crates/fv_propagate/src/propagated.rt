@@ -31,7 +31,7 @@ pub fn propagate(
     // Each output is that of the diagram, where the controls lie in the spans of which the delays are.
     ensures values { IfOk result (λ g. (spans : List Interval) → AreAccepted (delays_of (tree_of diagrams.now root) spans) delays.now
         → Propagates (tree_of diagrams.now root) spans g) }
-    // And no delay goes back further than its greatest number.
+    // No delay goes back further than its greatest number.
     ensures delays { IfOk result (λ g. (spans : List Interval) → AreAccepted (delays_of (tree_of diagrams.now root) spans) delays.now
         → DelaysStayWithin (tree_of diagrams.now root) spans g) }
     ensures short { IfOk result (λ g. (spans : List Interval) → AreSpans spans → AreAccepted (delays_of (tree_of diagrams.now root) spans) delays.now

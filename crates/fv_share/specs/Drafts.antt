@@ -75,7 +75,7 @@ pub record CanPut (d : Draft) (signal : Signal) : Type 0 where
   pub operands : OperandsThere (length d.signals) signal
   pub names : NamesSoFar d signal
 
--- each Back of the group names one of so many members
+-- each Back of the group names one of its first members
 abbrev pub BacksWithin : Draft → (group members : ℕ) → Type 0
 BacksWithin d group members = (s k : ℕ) (x : Signal) → s < length d.signals → slice_index_or d.signals s x ≡ Back group k → k < members
 
@@ -112,7 +112,7 @@ pub record IsPut (d : Draft) (signal : Signal) (put : ℕ × Draft) : Type 0 whe
 abbrev pub PutsStand : Type 0
 PutsStand = (d : Draft) (signal : Signal) → IsPut d signal (put d signal)
 
--- where each Back of a group names one of so many members, it does once such a signal is put
+-- where each Back of a group names one of its first members, it does once such a signal is put
 abbrev pub BacksStayWithin : Type 0
 BacksStayWithin =
     (d : Draft) (signal : Signal) (group members : ℕ) → ((k : ℕ) → signal ≡ Back group k → k < members) → BacksWithin d group members →
@@ -150,7 +150,7 @@ TablesStand = (d : Draft) (T : List ℤ) → IsTablePut d T (put_table d T)
 abbrev pub with_group : Draft → ℕ × Draft
 with_group d = (length d.groups, record d { groups = d.groups ++ [] ∷ []; closed = d.closed ++ false ∷ [] })
 
--- so many open groups more
+-- the draft with this many open groups more
 abbrev pub with_groups : Draft → (count : ℕ) → Draft
 with_groups d zero = d
 with_groups d (suc n) = (with_group (with_groups d n)).1
@@ -159,7 +159,7 @@ with_groups d (suc n) = (with_group (with_groups d n)).1
 abbrev pub with_members : Draft → (group : ℕ) → List ℕ → Draft
 with_members d group members = record d { groups = slice_set d.groups group members; closed = slice_set d.closed group true }
 
--- What opening groups does: so many are new, each waits for its members, and no Back names it; those that were there stay.
+-- What opening groups does: each new one waits for its members, and no Back names it. Those that were there stay.
 pub record AreOpened (d new : Draft) (count : ℕ) : Type 0 where
   pub long : length new.groups ≡ length d.groups + count
   pub signals : new.signals ≡ d.signals

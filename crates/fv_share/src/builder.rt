@@ -14,13 +14,18 @@ use indexmap::IndexSet;
 use std::alloc::{AllocError, Global};
 use std::marker::Model;
 
-/// Signals, each of which stands once, groups of them, and tables.
+/// A graph that is being built.
 #[derive(Drop)]
 pub struct Builder {
+    // The signals, each once, in the order in which they were put. The index is the signal's number.
     signals: IndexSet<Signal>,
+    // By group: the definitions of its members, none while it is open.
     groups: Vec<Vec<SignalId>>,
+    // By group: whether its members were given.
     closed: Vec<bool>,
+    // The tables, each once, in the order in which they were put.
     tables: Vec<Vec<i32>>,
+    // Where groups and tables take their memory.
     alloc: Global,
 }
 
@@ -63,7 +68,7 @@ fn number(number: &i32) -> i32
     value
 }
 
-// The same numbers.
+// A list of the numbers `values`.
 fn copied(alloc: Global, values: &[i32]) -> Result<Vec<i32>, AllocError>
     ensures same { IfOk result (λ v. v.items ≡ values.now) }
     ensures numbers { OnOk result (All (λ n. FitsSigned w32 n) values.now) }
@@ -142,7 +147,7 @@ impl Builder {
         Ok(place)
     }
 
-    /// Keeps all tables of a graph, one after another. The first one's number.
+    /// Keeps all tables of a graph, one after another. Returns the first one's number.
     pub fn add_tables(&mut self, graph: &Graph) -> Result<u64, AllocError>
         ensures first { IfOk result (λ first. first ≡ length self.old.tables) }
         ensures ok { OnOk result (self.new ≡ with_tables self.old graph.now.tables) }
@@ -190,7 +195,7 @@ impl Builder {
         Ok(group)
     }
 
-    /// So many new groups, numbered one after another. The first one's number.
+    /// Opens `count` new groups, numbered one after another. Returns the first one's number.
     pub fn open_groups(&mut self, count: u64) -> Result<u64, AllocError>
         ensures first { IfOk result (λ first. first ≡ length self.old.groups) }
         ensures ok { OnOk result (self.new ≡ with_groups self.old count) }

@@ -12,7 +12,7 @@ pub fn tables_stand()
     ensures { TablesStand }
 {}
 
-/// The Backs of a group stay within so many members, where what is put does.
+/// Where each Back of a group names one of the first members, it does so after a signal is put that does.
 pub fn backs_stay_within()
     ensures { BacksStayWithin }
 {}

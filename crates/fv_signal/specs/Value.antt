@@ -53,7 +53,7 @@ ValuesLookBack g =
     (X Y : List Frame) (c d : ℕ → Stream) (n : ℕ) → ((i u : ℕ) → u < n → column X i u ≡ column Y i u) → ((k u : ℕ) → u < n → c k u ≡ d k u) →
     (s t : ℕ) → t < n → value g s X c t ≡ value g s Y d t
 
--- h has the signals of g and more behind them, and the definitions of its groups and its tables
+-- h has the signals of g and more after them, and the definitions of its groups and its tables
 pub record Extends (g h : Graph) : Type 0 where
   pub more : List Signal
   pub signals : h.signals ≡ g.signals ++ more

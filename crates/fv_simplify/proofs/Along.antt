@@ -142,7 +142,7 @@ module _ (g : Graph) (marks : List Bool) (room : ℕ → Option ℕ) where
   abbrev Marked : ℕ → Type 0
   Marked s = IsMarked marks s
 
-  -- what a step does: the image, and the draft behind it
+  -- what a step does: the image, and the draft after it
   pub record Steps (s : Pass) (n : Signal) (t : Pass) : Type 0 where
     pub image : ℕ
     pub images : t.images ≡ s.images ++ image ∷ []
@@ -208,7 +208,7 @@ module _ (g : Graph) (marks : List Bool) (room : ℕ → Option ℕ) where
     abbrev AreThere : Pass → Type 0
     AreThere s = (a : ℕ) → a < length s.images → get_or s.images a 0 < length s.draft.signals
 
-    -- one marked signal behind a state whose images are those
+    -- one marked signal after a state whose images are those
     one : (s t : Pass) (n : Signal) (k : ℕ) → k ≡ length s.images → k < length g.signals → node g k ≡ n → Steps s n t → IsPrefixOf t.images L
         → IsPrefixOf t.draft.signals f.signals →
         ((a : ℕ) → a < length s.images → get_or s.images a 0 < length s.draft.signals) → Marked k → IsImage g f p room n (p k)
@@ -296,7 +296,7 @@ module _ (g : Graph) (marks : List Bool) (room : ℕ → Option ℕ) where
         let long = ap length h.is ∙ length-append d.signals h.rest in
         let below = subst (OperandsBelow f x) (sym same ∙ e) (ordered x (Const (pos 0)) (omega (arith, long, l))) in below.0
 
-    -- all marked signals behind a state
+    -- all marked signals after a state
     abbrev Final : Pass → List Signal → Type 0
     Final s ns = ((steps g marks room s ns).images ≡ L) × IsPrefixOf (steps g marks room s ns).draft.signals f.signals
 

@@ -173,7 +173,7 @@ module _ (group width : ℕ) where
       let ws = map (λ a. get_or images a 0) args in folded_backs d op ws (numbers (so_far d) (take (inputs_of op) ws)) h
 
   module _ (g : Graph) (marks : List Bool) (room : ℕ → Option ℕ) where
-    -- the marked signals behind a state name members within the width
+    -- the marked signals after a state name members within the width
     abbrev NameWithin : Pass → List Signal → Type 0
     NameWithin s ns = (i k : ℕ) → i < length ns → IsMarked marks (length s.images + i) → get_or ns i (Const (pos 0)) ≡ Back group k → k < width
 

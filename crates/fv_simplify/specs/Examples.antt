@@ -52,7 +52,7 @@ folded_wrapped : (rebuilt wrapped all [] no_room).outputs ≡ 4 ∷ []
 unfolding int_wrap
 folded_wrapped = refl
 
--- a running sum, behind its member: + ~ _, and 0 more
+-- a running sum, after its member: + ~ _, and 0 more
 abbrev running : Graph
 running = record {
   signals = Const (pos 0) ∷ Input 0 ∷ Back 0 0 ∷ Point Add (2 ∷ 1 ∷ 2 ∷ 2 ∷ []) ∷ Member 0 0 ∷ Point Add (4 ∷ 0 ∷ 4 ∷ 4 ∷ []) ∷ [];

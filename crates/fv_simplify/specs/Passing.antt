@@ -21,11 +21,11 @@ abbrev pub is_zero : Option ℤ → Bool
 is_zero None = false
 is_zero (Some n) = int_eq n (pos 0)
 
--- x so many samples later
+-- x later by a number of samples, as a delay that is put
 abbrev pub put_late : Draft → (x by : ℕ) → ℕ × Draft
 put_late d x by = let e = put d (Const (pos by)) in put e.1 (Delay x e.0 by)
 
--- the same, where 0 stays as it is
+-- x later by a number of samples, where the number 0 stays as it is
 abbrev pub late : Draft → (x by : ℕ) → ℕ × Draft
 late d x by = if is_zero (number_at (so_far d) x) then (x, d) else put_late d x by
 
@@ -55,7 +55,7 @@ folded d op args None = chosen d op args (choice op (known (so_far d) (take (inp
 abbrev pub operation : Draft → Op → List ℕ → ℕ × Draft
 operation d op args = folded d op args (numbers (so_far d) (take (inputs_of op) args))
 
--- the room at signal x, where a table has it: none behind its end
+-- the room at signal x, where a table has it: none past its end
 abbrev pub room_in : List (Option ℕ) → ℕ → Option ℕ
 room_in rooms x = slice_index_or rooms x None
 
@@ -76,8 +76,8 @@ abbrev pub HasWidth : Signal → Type 0
 HasWidth (Point op args) = inputs_of op ≤ length args
 HasWidth _ = Unit {0}
 
--- Where the images of the earlier signals are in the draft, what is put for a signal is its image in every graph that has all
--- of the draft, and in which the definitions of its groups are the images of theirs.
+-- What is put for a signal is its image, where the draft has the images of the earlier signals. It is so in every graph that has
+-- all of the draft, and in which the definitions of its groups are the images of theirs.
 abbrev pub PutsImages : Graph → Type 0
 PutsImages f =
     IsOrdered f → (g : Graph) (images : List ℕ) (room : ℕ → Option ℕ) (d : Draft) (n : Signal) → OperandsBelow g (length images) n →

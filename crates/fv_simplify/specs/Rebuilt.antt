@@ -13,11 +13,12 @@ use Rattle.fv_simplify.specs.Nodes.{node, StandsAt, number_at, known, numbers}
 use Rattle.fv_simplify.specs.headline.Reducible.{limit, AreShort}
 use Rattle.fv_simplify.specs.Reducible.{AreSmall, StayWithin, reach, IsDelayedBy, IsTakenOver, IsReducible}
 
--- how many samples a delay by the number c goes back, where it goes back so many at most
+-- how many samples a delay by the number c goes back, from 0 to the most
 abbrev pub back_by : ℕ → ℤ → ℕ
 back_by most c = unsigned_abs (clamped most c)
 
--- a delay by a number m of s that may be taken over by delays of at most `room`, or what it is a delay of by nothing
+-- x, a delay of s by m samples, as a base for delays of it: s and m where m is a number and delays of at most `room` still fit,
+-- else x and 0
 abbrev pub taken : (x s m : ℕ) → Option ℤ → (room : Option ℕ) → ℕ × ℕ
 taken x s m (Some c) (Some room) = if nat_le (m + room) limit then (s, m) else (x, 0)
 taken x s m None room = (x, 0)
@@ -45,7 +46,7 @@ pub data IsPointImage (f : Graph) (op : Op) (args : List ℕ) (image : ℕ) : Ty
   AsItself : numbers f (take (inputs_of op) args) ≡ None → choice op (known f (take (inputs_of op) args)) ≡ None → node f image ≡ Point op args
       → IsPointImage f op args image
 
--- the image of a delay of x by d, up to so many samples
+-- the image of a delay of x by d samples, up to most
 pub data IsDelayImage (f : Graph) (room : Option ℕ) (x d most image : ℕ) : Type 0 where
   AtOnce : (c : ℤ) → number_at f d ≡ Some c → back_by most c ≡ 0 → image ≡ x → IsDelayImage f room x d most image
   LateNothing : (c : ℤ) → number_at f d ≡ Some c → 0 < back_by most c → node f (base f room x).0 ≡ Const (pos 0) → image ≡ (base f room x).0
@@ -115,8 +116,8 @@ abbrev pub RebuiltReadsNoFurther : Graph → Graph → Type 0
 RebuiltReadsNoFurther g f = (p : ℕ → ℕ) (room : ℕ → Option ℕ) (marks : List Bool) → IsGraph g → IsRebuilt g f p room (IsMarked marks)
     → RoomIsSafe g (IsMarked marks) room → ReadsNoFurther g f
 
--- The signals P of a graph are folded: numbers decide no operation of them, each delay is of no 0 and by its greatest
--- number if it is by a number, and no signal is a member.
+-- The signals P of a graph are folded. Numbers decide no operation of them, and no delay is of the number 0. A delay by a number is
+-- by its greatest number, and no signal of the graph is a member.
 pub record IsFolded (g : Graph) (P : ℕ → Type 0) : Type 0 where
   pub points : (s : ℕ) (op : Op) (args : List ℕ) → StandsAt g s (Point op args) → P s → (numbers g (take (inputs_of op) args) ≡ None)
       × (choice op (known g (take (inputs_of op) args)) ≡ None)
@@ -124,7 +125,7 @@ pub record IsFolded (g : Graph) (P : ℕ → Type 0) : Type 0 where
       × ((c : ℤ) → number_at g d ≡ Some c → (c ≡ pos most) × (0 < most))
   pub members : (s group k : ℕ) → StandsAt g s (Member group k) → ⊥
 
--- The room at x is how far the delays of x among P go that are by a number, and there is none where one is not by a number.
+-- The room at x is how far those delays of x go that are among P, where all of them are by numbers. There is none where one is not.
 pub record IsRoom (g : Graph) (P : ℕ → Type 0) (room : ℕ → Option ℕ) : Type 0 where
   pub safe : RoomIsSafe g P room
   pub full : (x q : ℕ) → room x ≡ Some q → 0 < q → (s : ℕ) × (d : ℕ) × (most : ℕ) × StandsAt g s (Delay x d most) × P s × (node g d ≡ Const (pos q))

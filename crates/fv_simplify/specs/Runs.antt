@@ -32,7 +32,7 @@ definitions g widths images = table (length g.groups) (λ n. map (λ r. slice_in
 abbrev pub nothing : Draft
 nothing = record { signals = []; groups = []; closed = []; tables = [] }
 
--- the pass behind the number 0, with all groups open, and the tables
+-- the pass after the number 0, with all groups open, and the tables
 abbrev pub begun : Graph → Pass
 begun g = record { draft = (put (with_tables (with_groups nothing (length g.groups)) g.tables) (Const (pos 0))).1; images = [] }
 

@@ -34,7 +34,7 @@ pub fn find(alloc: Global, graph: &Graph) -> Result<Vec<SignalId>, AllocError> {
     Ok(named)
 }
 
-// How many rounds a graph of so many signals may have.
+// How many rounds a graph of `signals` signals may have.
 fn most_rounds(signals: u64) -> u64 {
     match MOST_READINGS.checked_div(signals) {
         Some(rounds) => rounds.max(FEWEST_ROUNDS),

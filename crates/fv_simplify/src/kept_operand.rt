@@ -19,7 +19,7 @@ pub fn choice(op: Op, first: Option<i32>, second: Option<i32>) -> Option<u64>
     }
 }
 
-// The same, where the operation is no selector.
+// The place of the operand that the value is, where the operation is no selector.
 fn either(op: Op, first: Option<i32>, second: Option<i32>) -> Option<u64>
     ensures { result ≡ or_else_of (left_by_of op 1 0 second) (left_by_of op 0 1 first) }
 {

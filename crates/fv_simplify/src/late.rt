@@ -35,7 +35,7 @@ fn is_zero(builder: &Builder, id: SignalId) -> bool
     }
 }
 
-// Signal x so many samples later.
+// Signal x `by` samples later.
 fn late(builder: &mut Builder, x: SignalId, by: u32) -> Result<SignalId, AllocError>
     requires there { x < length builder.old.signals }
     requires small { by < 2 ^ 31 }
@@ -73,7 +73,7 @@ pub(crate) fn put_number(builder: &mut Builder, n: i32) -> Result<SignalId, Allo
     put_signal(builder, Signal::Const(n))
 }
 
-// Puts x so many samples later.
+// Puts a delay of x by `by` samples.
 fn put_delay(builder: &mut Builder, x: SignalId, by: u32) -> Result<SignalId, AllocError>
     requires there { x < length builder.old.signals }
     requires small { by < 2 ^ 31 }
@@ -86,7 +86,7 @@ fn put_delay(builder: &mut Builder, x: SignalId, by: u32) -> Result<SignalId, Al
     Ok(id)
 }
 
-// How many samples a delay by the number c goes back, at most so many.
+// How many samples a delay by the number c goes back: from 0 to `most`.
 fn back_by(most: u32, c: i32) -> u32
     ensures value { result ≡ back_by_of most c }
     ensures small { result < 2 ^ 31 }
@@ -111,7 +111,8 @@ fn base(builder: &Builder, x: SignalId, room: Option<u32>) -> (SignalId, u32)
     }
 }
 
-// The same, of a signal that is this delay.
+// The signal of which x is taken as a delay, and by how many samples, where x is a delay of s by d. It is s itself where d is a
+// number and both delays fit into one; else it is x.
 fn taken(
     builder: &Builder,
     x: SignalId,
@@ -139,7 +140,7 @@ fn taken(
     }
 }
 
-// Signal x by samples later, or what it is taken as a delay of, by as many more.
+// Signal x `by` samples later. Where x is taken as a delay, its samples are added.
 fn by_number(
     builder: &mut Builder,
     x: SignalId,
@@ -158,7 +159,8 @@ fn by_number(
     late(builder, from, already + by)
 }
 
-/// Signal x as many samples later as d says, up to so many.
+/// Signal x as many samples later as d says, at most `most`. `room` is how far the delays of x go in the graph that is rebuilt,
+/// where all of them are by numbers.
 pub fn delayed(
     builder: &mut Builder,
     x: SignalId,
@@ -178,7 +180,7 @@ pub fn delayed(
     }
 }
 
-// The same, where d is no number.
+// Signal x as many samples later as d says, where d is no number.
 fn varying(
     builder: &mut Builder,
     x: SignalId,

@@ -9,8 +9,8 @@ ghost use Rattle.fv_simplify.specs.Rebuilt.{IsMarked};
 use fv_signal::{Graph, Signal, SignalId};
 use std::alloc::{AllocError, Global};
 
-// A sweep goes from the last signal to the first, and a Back may name a definition behind it. Where so many sweeps do not mark
-// all that outputs reach, every signal is marked.
+// How many sweeps are made at most. A sweep goes from the last signal to the first, and a Back may name a definition after it.
+// Where these sweeps do not mark all that outputs reach, every signal is marked.
 const SWEEPS: u32 = 8;
 
 /// Marks of signals that read nothing but one another, the outputs among them: what outputs reach, as a rule.

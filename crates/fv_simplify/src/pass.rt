@@ -45,7 +45,7 @@ fn begun(alloc: Global, graph: &Graph) -> Result<Builder, AllocError>
     Ok(builder)
 }
 
-// The same, in a builder that has nothing.
+// Opens all groups, adds the tables and the number 0, in a builder that has nothing.
 fn begin(builder: &mut Builder, graph: &Graph) -> Result<(), AllocError>
     requires { builder.old ≡ record { signals = []; groups = []; closed = []; tables = [] } }
     ensures { OnOk result (builder.new ≡ (begun_of graph.now).draft) }
@@ -149,7 +149,7 @@ fn definitions(
     Ok(lists)
 }
 
-// The images of so many signals.
+// The images of the first `count` signals.
 fn first_images(
     alloc: Global,
     signals: &[SignalId],

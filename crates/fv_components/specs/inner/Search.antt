@@ -30,11 +30,11 @@ no_class = record { first = 0; waiting = 0 }
 abbrev pub class : State → ℕ → Class
 class st c = slice_index_or st.classes c no_class
 
--- no class begins behind place a, up to place b
+-- no class begins after place a, up to place b
 abbrev pub Together : State → ℕ → ℕ → Type 0
 Together st a b = (c : ℕ) → c < length st.classes → (class st c).first ≤ b → (class st c).first ≤ a
 
--- a node that place i of the path leads to is done, stands on the path where no class begins between, or waits with i's class
+-- A node to which place i of the path leads is done, or stands on the path where no class begins between, or waits with i's class.
 pub data Followed (st : State) (i b : ℕ) : Type 0 where
   Finished : (k : ℕ) → mark st b ≡ Done k → Followed st i b
   Before : (p : ℕ) → mark st b ≡ Open p → Together st p i → Followed st i b
@@ -164,13 +164,13 @@ pub record AreNumbers (st : State) (numbers : List ℕ) : Type 0 where
   pub long : length numbers ≡ length st.marks
   pub each : (s : ℕ) → s < length st.marks → mark st s ≡ Done (at numbers s)
 
--- the first m classes begin no later than a place, and where they are not all, the next one begins behind it
+-- the first m classes begin no later than a place, and where they are not all, the next one begins after it
 pub record IsCountUpTo (classes : List Class) (place m : ℕ) : Type 0 where
   pub few : m ≤ length classes
   pub behind : (c : ℕ) (d : Class) → m ≤ c → c < length classes → place < (slice_index_or classes c d).first
   pub last : (d : Class) → 0 < m → (slice_index_or classes (m - 1) d).first ≤ place
 
--- the first m classes stay, and those behind become one with the last of them
+-- the first m classes stay, and those after become one with the last of them
 abbrev pub collapsed : State → ℕ → State
 collapsed st m = record st { classes = take m st.classes }
 

@@ -43,7 +43,7 @@ never_below least f (c ∷ cs) h n =
     let here : f < c.frame = let le = n.0 in omega arith in
     (here, never_below c.frame f cs here n.1)
 
--- where frames never fall, all changes behind one that has not come have not
+-- where frames never fall, all changes after one that has not come have not
 pub all_behind : (least f n : ℕ) (cs : List Change) (c : Change) → NeverFall least cs → (n < length cs → f < (get_or cs n c).frame) →
     AllByRecursion (λ b. f < b.frame) (drop n cs)
 all_behind least f zero [] c k h = tt

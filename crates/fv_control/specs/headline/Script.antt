@@ -57,7 +57,7 @@ abbrev pub requested : Option ℕ → List ℕ → Option ℤ → Option Request
 requested (Some frame) label (Some value) = Some (record { frame = frame; label = label; value = value })
 requested _ label _ = None
 
--- cut at the last space of what stands behind the first one
+-- cut at the last space of what follows the first one
 abbrev pub request_at : (frame rest : List ℕ) → Option ℕ → Option Request
 request_at frame rest None = None
 request_at frame rest (Some i) = if i == 0 then None else requested (frame_of frame) (take i rest) (value_of (drop (i + 1) rest))
@@ -113,7 +113,7 @@ abbrev pub listed : Option Change → List Change
 listed None = []
 listed (Some c) = c ∷ []
 
--- the least frame behind a line
+-- the least frame after a line
 abbrev pub least_behind : ℕ → Option Change → ℕ
 least_behind least None = least
 least_behind least (Some c) = c.frame

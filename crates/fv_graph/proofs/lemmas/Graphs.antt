@@ -258,7 +258,7 @@ module _ (g : Tasks) (ig : IsGraph g) where
   exits_from e i = let x = exit_source e i in let v = x.1 in let o = ig.some_vector in
       let t = task_below (e / stride g - 1) (e % stride g) (omega arith) x.0 in let s = source_chain e x.0 in omega arith
 
-  -- an edge out of a task ends at most behind the last vector
+  -- an edge out of a task ends at most after the last vector
   fed_below : (e t : ℕ) → t < task_count g → is_entry g e ≡ false → source_of g e ≡ t → e < edges_of g
   fed_below e t there begins is =
       let pt = at_t e t there in let p = at_e e in let l = low e in let w = low_quotient t g.vectors g.loops there in

@@ -6,7 +6,7 @@ use Rattle.fv_jobs.specs.declared.refusal.JobsRefusal.{JobsRefusal}
 use Rattle.fv_jobs.specs.declared.refusal.JobsRefusal.TheVariants.{TextTooLong, RackSize}
 use Rattle.fv_jobs.specs.headline.Jobs.{jobs_in}
 
--- so many jobs may stand in a file
+-- the jobs, where a file may have that many
 abbrev pub counted : List (List ℕ) → Result (List (List ℕ)) JobsRefusal
 counted jobs = if nat_le (length jobs) MOST_JOBS then Ok jobs else Err (RackSize (length jobs))
 

@@ -14,7 +14,7 @@ renamed k c = record c { label = label_of k c.label }
 abbrev pub labelled : (k : ℕ) → List ControlInfo → List ControlInfo
 labelled k cs = map (renamed k) cs
 
--- the controls of jobs one behind another, of which the first has this number
+-- the controls of jobs one after another, of which the first has this number
 abbrev pub controls_from : (k : ℕ) → List (List ControlInfo) → List ControlInfo
 controls_from k [] = []
 controls_from k (cs ∷ jobs) = labelled k cs ++ controls_from (k + 1) jobs

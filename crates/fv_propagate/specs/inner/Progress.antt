@@ -97,7 +97,7 @@ given s group outs = record s { draft = with_members s.draft group outs }
 abbrev pub late_of : Progress → ℕ × Progress
 late_of s = put (grouped s) (Back (length s.draft.groups) 0)
 
--- and the number after that of the Back, modulo n
+-- a group, its Back, and the number after that of the Back, modulo n
 abbrev pub turned : ℕ → Progress → ℕ × Progress
 turned n s = put_next (late_of s).1 (late_of s).0 n
 

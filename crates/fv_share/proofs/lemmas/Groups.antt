@@ -50,7 +50,7 @@ module _ (d : Draft) (first : ℕ) (members : List ℕ) where
   one_shut : length d.closed ≡ length d.groups → IsPending d first → IsShut one first
   one_shut m p = (omega (arith, p.0, length-set d.groups first members), get_or-set_same d.closed first true false (omega (arith, m, p.0)))
 
-  -- the groups behind it wait as before
+  -- the groups after it wait as before
   one_pending : (g : ℕ) → IsPending d (first + suc g) → IsPending one (suc first + g)
   one_pending g p =
       let at : first + suc g ≡ suc first + g = omega arith in
@@ -107,7 +107,7 @@ shut_all d m first (members ∷ lists) p =
         let at : suc first + g ≡ first + suc g = omega arith in
         ap (λ k. get_or new.groups k []) (sym at) ∙ q.its g (omega (arith, l))
 
--- what closing asks, of the first group and of those behind it
+-- what closing asks, of the first group and of those after it
 pub close_first : (d : Draft) (first : ℕ) (members : List ℕ) (lists : List (List ℕ)) → CanClose d first (members ∷ lists)
     → IsPending d first × All (λ s. s < length d.signals) members × BacksWithin d first (length members)
 close_first d first members lists h =

@@ -152,7 +152,7 @@ module _ (d : Draft) (group : ℕ) (members : List ℕ) (h : IsDraft d) (pending
 
 -- ---- a table more
 
--- a table that is there stays where more come behind it
+-- a table that is there stays where more come after it
 pub tables_stay : (xs ys : List (List ℤ)) (t : ℕ) → 0 < length (get_or xs t []) → get_or (xs ++ ys) t [] ≡ get_or xs t []
 tables_stay [] ys t l = absurd (omega arith)
 tables_stay (x ∷ xs) ys zero l = refl

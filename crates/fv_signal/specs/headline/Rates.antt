@@ -21,8 +21,8 @@ abbrev pub fastest : List Rate → Rate
 fastest [] = rate.Constant
 fastest (r ∷ rs) = faster r (fastest rs)
 
--- A signal's rate, from the rates of its operands: an operation has the fastest of theirs, an item of a table that of its
--- place, and what passes through a delay, a group or a table that is written is of rate sample.
+-- A signal's rate, from the rates of its operands. An operation has the fastest of theirs, and an item of a table that of its
+-- index. What passes through a delay, a group or a table that is written is of rate sample.
 abbrev pub rate_in : (ℕ → Rate) → Signal → Rate
 rate_in r (Input i) = rate.Sample
 rate_in r (Const n) = rate.Constant

@@ -59,7 +59,7 @@ OperandsBelow g i (Member group k) = definition g group k < i
 OperandsBelow g i (Read table r) = r < i
 OperandsBelow g i (Write table w x r) = (w < i) × (x < i) × (r < i)
 
--- so it is with each signal
+-- the operands of each signal are earlier signals; those of a Member are the definition that it names
 abbrev pub IsOrdered : Graph → Type 0
 IsOrdered g = (i : ℕ) (d : Signal) → i < length g.signals → OperandsBelow g i (slice_index_or g.signals i d)
 
@@ -75,7 +75,7 @@ NamesWithin g (Member group k) = (group < length g.groups) × (k < length (membe
 NamesWithin g (Read table r) = 0 < length (table_of g table)
 NamesWithin g (Write table w x r) = 0 < length (table_of g table)
 
--- so it is with each signal
+-- what each signal names is there
 abbrev pub IsClosed : Graph → Type 0
 IsClosed g = (i : ℕ) (d : Signal) → i < length g.signals → NamesWithin g (slice_index_or g.signals i d)
 
@@ -91,11 +91,11 @@ HasNumber (Member group k) = Unit {0}
 HasNumber (Read table r) = Unit {0}
 HasNumber (Write table w x r) = Unit {0}
 
--- so it is with each signal
+-- each number of a graph's signals has 32 bits
 abbrev pub HasNumbers : Graph → Type 0
 HasNumbers g = (i : ℕ) (d : Signal) → i < length g.signals → HasNumber (slice_index_or g.signals i d)
 
--- and with each number of these tables
+-- each number of these tables has 32 bits
 abbrev pub HaveNumbers : List (List ℤ) → Type 0
 HaveNumbers tables = (table i : ℕ) → FitsSigned w32 (argument (slice_index_or tables table []) i)
 

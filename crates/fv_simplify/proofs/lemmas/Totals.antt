@@ -68,6 +68,6 @@ module _ (owner r : ℕ → ℕ) where
   pub owned_later : (S n m : ℕ) → n ≤ m → owned S n ≤ owned S m
   owned_later S n m l = let e : n + (m - n) ≡ m = omega (arith, l) in subst (λ j. owned S n ≤ owned S j) e (owned_more S n (m - n))
 
-  -- one that it owns, behind the earlier ones
+  -- one that it owns, after the earlier ones
   pub owned_with : (S n m : ℕ) → n < m → owner n ≡ S → owned S n + r n ≤ owned S m
   owned_with S n m l e = omega (arith, owned_later S (suc n) m (omega (arith, l)), picked_same (owner n) S (r n) e)

@@ -5,7 +5,7 @@ use Rattle.fv_signal.specs.declared.signal.Signal.TheVariants.{Delay}
 use Rattle.fv_signal.specs.headline.Value.{Graph}
 use Rattle.fv_simplify.specs.Nodes.{StandsAt}
 
--- a delay goes back so many samples at most
+-- the most samples that a delay may go back
 abbrev pub limit : ℕ
 limit = DELAY_BUDGET
 

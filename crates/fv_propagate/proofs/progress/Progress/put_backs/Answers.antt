@@ -7,7 +7,7 @@ use Rattle.fv_propagate.proofs.Puts.{puts_more, puts_feedbacks}
 use Rattle.fv_propagate.proofs.Kept.{puts_pending, pending_names, nested_wires, backs_puts}
 use Rattle.fv_propagate.proofs.progress.Progress.put_backs.Goals as goal
 
--- the progress after so many Backs
+-- the progress after some Backs
 waits : (g i : ℕ) (s p : Progress) (ids : List ℕ) → (ids, p) ≡ puts (Back g) i s → IsPending s.draft g → IsPending p.draft g
 waits g i s p ids e h = subst (λ (q : Progress). IsPending q.draft g) (sym (ap (λ r. r.1) e)) (puts_pending (Back g) i s g h)
 
