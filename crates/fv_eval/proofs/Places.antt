@@ -10,7 +10,7 @@ get_at_drop [] (suc i) y ys e = absurd (cc)
 get_at_drop (x ∷ xs) zero y ys e = let h : x ≡ y = cc in ap Some h
 get_at_drop (x ∷ xs) (suc i) y ys e = get_at_drop xs i y ys e
 
--- and the rest behind it
+-- and the rest after it
 pub drop_behind : {A : Type 0} (xs : List A) (i : ℕ) (y : A) (ys : List A) → drop i xs ≡ y ∷ ys → drop (suc i) xs ≡ ys
 drop_behind [] zero y ys e = absurd (cc)
 drop_behind [] (suc i) y ys e = absurd (cc)

@@ -114,7 +114,7 @@ last_parameter p m f n count e (Abstraction x (y ∷ ys) b E) a counted few s =
     absurd (omega (arith, left, all, few))
 last_parameter p m f n count e v a counted few s = absurd s
 
--- it has others behind this one
+-- it has others after this one
 pub parameter_takes : (p : Parsed) (m : code_machine.Machine) (new : Environments) (f n k count e i name : ℕ) (u : code_value.Value) (v a : Value)
     → k ≡ n + 1
     → (0 < length (parameters_in p.tokens (tree_in p f)) → count ≡ length (parameters_in p.tokens (tree_in p f))) → k < count

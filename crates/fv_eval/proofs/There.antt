@@ -42,7 +42,7 @@ values_drawn w us (v ∷ vs) h =
     subst (λ (xs : List code_value.Value). All (IsDrawn w.diagrams) xs) (sym h.2)
     (All-cons (IsDrawn w.diagrams) h.0 h.1 (there_drawn w h.0 (value_there w h.0 v h.3)) (values_drawn w h.1 vs h.4))
 
--- one value more, behind the others
+-- one value more, after the others
 pub values_push : (w : World) (us : List code_value.Value) (vs : List Value) (u : code_value.Value) (v : Value) → ShowsValues w us vs → ShowsValue w u v
     → ShowsValues w (us ++ u ∷ []) (vs ++ v ∷ [])
 values_push w us [] u v h k = (u, [], ap (λ (xs : List code_value.Value). xs ++ u ∷ []) h, k, refl)
@@ -57,7 +57,7 @@ first_left w us at u a more e h =
     let is : h.0 ≡ u = cc in
     subst (λ (x : code_value.Value). ShowsValue w x a) is h.3
 
--- one diagram more, behind the others
+-- one diagram more, after the others
 pub draws_push : (w : World) (is : List ℕ) (ds : List Diagram) (i : ℕ) (d : Diagram) → AllDraw w is ds → Draws w i d → AllDraw w (is ++ i ∷ []) (ds ++ d ∷ [])
 draws_push w is ds i d h k = (
   All-append (λ j. j < count_of w.diagrams) is (i ∷ []) h.0 (All-cons (λ j. j < count_of w.diagrams) i [] k.0 (All-nil (λ j. j < count_of w.diagrams))),

@@ -23,7 +23,7 @@ Waits p m n r f id e = (F : Continuation) (x : Tree) (E : Env) → ShowsContinua
     → ShowsEnv (world p m) e E
     → Steps p m n r (λ Fs s. Running (Visit x E) (F ∷ Fs) s)
 
--- the arguments behind a place wait
+-- the arguments after a place wait
 pub leave_waits : (p : Parsed)
     (m n : code_machine.Machine) (r : Result code_focus.Focus EvalRefusal) (app body e at next : ℕ) (us : Vec code_value.Value Global) → next ≡ at + 1
     → Waits p m n r (continuation.Valued (valued.Leftover app us next)) body e → Leaves p m n r app body e us.items at

@@ -89,7 +89,7 @@ impl Machine {
         Ok(Focus::Give(function))
     }
 
-    // A function with one argument more, where it wants others behind it.
+    // A function with one argument more, where it wants others after it.
     fn take(
         &mut self,
         text: &Definitions,
@@ -126,7 +126,7 @@ impl Machine {
         }
     }
 
-    // An abstraction with one parameter more bound, where it has others behind it.
+    // An abstraction with one parameter more bound, where it has others after it.
     fn take_parameter(
         &mut self,
         tree: &Tree,
@@ -244,7 +244,7 @@ impl Machine {
         }
     }
 
-    // A body is visited, and the arguments behind this place wait for its value.
+    // A body is visited, and the arguments after this place wait for its value.
     fn leave(
         &mut self,
         application: TreeId,

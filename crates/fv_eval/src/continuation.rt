@@ -46,7 +46,7 @@ pub enum ForDiagram {
         binary: TreeId,
         env: u64,
     },
-    /// The right part comes, behind the left one.
+    /// The right part comes, after the left one.
     Right {
         operator: Operator,
         left: DiagramId,
@@ -56,7 +56,7 @@ pub enum ForDiagram {
     /// `-` before a name.
     Negated,
     Ports(Side),
-    /// A body, around which so many slots from this one on are bound.
+    /// A body, around which `slots` slots from `slot` on are bound.
     Binding {
         slot: u64,
         slots: u64,
@@ -73,7 +73,7 @@ pub enum ForDiagram {
         iteration: TreeId,
         env: u64,
     },
-    /// An iteration, whose next body comes: how many are left behind it, and those that are done.
+    /// An iteration, whose next body comes: how many are left after it, and those that are done.
     Body {
         iteration: TreeId,
         env: u64,

@@ -21,12 +21,17 @@ use std::alloc::Global;
 /// The lists of an evaluation.
 #[derive(Drop)]
 pub struct Machine {
+    /// Where the lists take their memory.
     pub alloc: Global,
+    /// The diagrams that were put, and the table sum.
     pub drawing: Drawing,
+    /// The environments, and the arguments that rules have taken.
     pub scopes: Scopes,
+    /// The controls that were met, in the order of their first evaluation.
     pub controls: Controls,
     /// The controls of the labels that were met.
     pub labels: Labels,
+    /// What waits for a value, the innermost last.
     pub continuations: Continuations,
     /// What is remembered of long patterns: which diagrams they do not match, which they may, and what they bind there.
     pub trials: Trials,
@@ -39,7 +44,7 @@ pub struct Machine {
 }
 
 impl Machine {
-    /// A machine with so many visits, in which nothing waits.
+    /// A machine with `visits` visits, in which nothing waits.
     pub fn new(alloc: Global, visits: u32) -> Machine
         ensures { IsNew result (record { visits = visits; controls = []; slot = 0; tables = 0 }) }
     {
@@ -57,7 +62,7 @@ impl Machine {
         }
     }
 
-    /// A tree is visited, and this waits for it.
+    /// Visits a tree, and has this wait for it.
     pub fn wait(
         &mut self,
         continuation: Continuation,
@@ -72,7 +77,7 @@ impl Machine {
         Ok(Focus::Visit { id, env })
     }
 
-    /// A name is called, and this waits for it.
+    /// Calls a name, and has this wait for it.
     pub fn wait_for_name(
         &mut self,
         continuation: Continuation,
@@ -87,7 +92,7 @@ impl Machine {
         Ok(Focus::Call { name, env })
     }
 
-    /// A tree is visited among definitions.
+    /// Visits a tree among definitions.
     pub fn visit_among(&mut self, list: TreeId, id: TreeId, env: u64) -> Result<Focus, EvalRefusal>
         ensures { (p : Parsed) (ds x : Tree) (E : Env) → ShowsTree (world p self.old) list ds → ShowsTree (world p self.old) id x
             → ShowsEnv (world p self.old) env E
@@ -97,7 +102,7 @@ impl Machine {
         Ok(Focus::Visit { id, env: inner })
     }
 
-    // A visit is spent. Where none was left this tells so.
+    // Spends a visit. Returns false where none is left.
     fn spend(&mut self) -> bool
         ensures left { MatchBool result (0 < self.old.visits) (self.old.visits ≡ 0) }
         ensures spent { self.new ≡ record self.old { visits = self.old.visits - 1 } }
@@ -138,6 +143,7 @@ impl Machine {
         requires { Runs text.now self.old first }
         ensures { (o : Outcome Meant) → Continues text.now.tokens text.now self.old (Ok first) o → Ends text.now self.new result o }
     {
+        // For the prover: no step changes what the machine stands for, so it ends with what it stood for at first.
         steps_mean();
         let mut focus = first;
         'stepping: for _ in 0..u64::MAX {

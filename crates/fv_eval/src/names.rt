@@ -21,11 +21,12 @@ pub fn canonical(tree: &Tree, n: u64) -> u64
     ensures text { text_of tree.now.tokens result ≡ text_of tree.now.tokens n }
     ensures first { first_named tree.now.tokens result ≡ result }
 {
+    // For the prover: the token with a token's canonical number has the same bytes.
     same_names();
     tree.name(n)
 }
 
-/// The canonical number of parameter `i` of an abstraction or a definition; `None` where there are not so many.
+/// The canonical number of parameter `i` of an abstraction or a definition; `None` where it has no parameter `i`.
 pub fn parameter(tree: &Tree, id: TreeId, i: u64) -> Option<u64>
     requires { id < size_of tree.now }
     // A definition has parameters where all its patterns are names.

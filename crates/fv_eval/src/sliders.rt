@@ -38,7 +38,7 @@ fn switch_kind(kind: Switch) -> ControlKind
     }
 }
 
-// The same of the words with four parameters.
+// The kind of control that a word with four parameters makes.
 fn slider_kind(kind: Slider) -> ControlKind
     ensures { result ≡ slider_kind kind }
 {
@@ -49,7 +49,7 @@ fn slider_kind(kind: Slider) -> ControlKind
     }
 }
 
-// Parameter `i` of a slider: init, min, max, step; `None` behind them.
+// Parameter `i` of a slider: init, min, max, step; `None` after them.
 fn part_of(tree: &Tree, slider: TreeId, i: usize) -> Option<TreeId>
     requires { slider < size_of tree.now }
     ensures part { option_map (tree_in tree.now) result ≡ slice_get (parameters_of (tree_in tree.now slider)) i }

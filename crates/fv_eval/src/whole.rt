@@ -166,6 +166,7 @@ fn evaluated(
     ensures refusal { IfErr result (λ e. (e ≡ NoMemory) ⊎ (program_value tree.now.tokens (program_of tree.now) ≡ Err e)) }
     ensures numbers { IfOk result (λ p. HasNumbers (tree_of p.diagrams p.root)) }
 {
+    // For the prover: the machine ends with what the rules give for the program, and what they give can run.
     steps_mean();
     evaluates_to_runnables();
     let (mut machine, first) = started(alloc, tree, name)?;

@@ -10,7 +10,7 @@ pub after_after : {A B C : Type 0} (r : Outcome A) (f : A → Eval B) (g : B →
 after_after (Ok x) f g = refl
 after_after (Err r) f g = refl
 
--- evaluations with the same outcomes, behind another
+-- evaluations with the same outcomes, after another
 pub same_after : {A B : Type 0} (r : Outcome A) (f g : A → Eval B) → ((x : A) (s : State) → f x s ≡ g x s) → after r f ≡ after r g
 same_after (Ok x) f g h = h x.0 x.1
 same_after (Err r) f g h = refl

@@ -23,7 +23,7 @@ pub record Links (a0 a : Canvas) (link : Link) (all parts : List ℕ) (whole : �
   pub same : Becomes a0 a (all_from_right (linked link) (trees_of a0.diagrams all))
       (all_from_right (linked link) (trees_of a0.diagrams parts ++ tree_of a.diagrams whole ∷ []))
 
--- Putting what is left behind what is put is the whole.
+-- Putting what is left after what is put is the whole.
 pub record Operates (a0 a : Canvas) (op : Op) (first : ℕ) (others left : List ℕ) (whole : ℕ) : Type 0 where
   pub keeps : Extends a0 a
   pub there : whole < count_of a.diagrams

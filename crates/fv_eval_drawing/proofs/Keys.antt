@@ -12,7 +12,7 @@ use Rattle.fv_diagram.specs.declared.control.ControlInfo.{ControlInfo}
 use Rattle.fv_rules.specs.headline.Steps.{labelled}
 use Rattle.fv_eval_drawing.specs.Controls.{AreLabels}
 
--- the place of the control that was found, which has its number behind so many others; or none was
+-- the place of the control that was found, which has its number after N others; or none was
 abbrev pub IsFound : ℕ → List ControlInfo → Option ℕ → Option (ℕ × ControlInfo) → Type 0
 IsFound k cs None None = Unit {0}
 IsFound k cs (Some i) (Some kc) = (k + i ≡ kc.0) × (slice_get cs i ≡ Some kc.1)
@@ -25,7 +25,7 @@ further k c cs true i j (Some kc) e h = (omega (arith, h.0, e), ap (slice_get (c
 further k c cs false i j None e h = h
 further k c cs false i j (Some kc) e h = h
 
--- the first control, or else one behind it
+-- the first control, or else one after it
 first_or_further : (k n i : ℕ) (c : ControlInfo) (cs : List ControlInfo) (b : Bool) (q : Option (ℕ × ControlInfo))
     → IsFound (suc k) cs (cond (nat_lt i n) (Some i) None) q
     → IsFound k (c ∷ cs) (cond (nat_lt (cond (not b) (1 + i) 0) (suc n)) (Some (cond (not b) (1 + i) 0)) None) (if b then Some (k, c) else q)

@@ -41,7 +41,7 @@ becomes_makes a b c whole rest (Ok i) w h = (h.0, λ s. w s ∙ h.1 s)
 becomes_makes a b c whole rest (Err e) w (inl h) = inl h
 becomes_makes a b c whole rest (Err e) w (inr h) = inr (λ s. w s ∙ h s)
 
--- ---- what is left of the rule: behind the parts that the table takes, behind the sum, behind the size, behind the head
+-- ---- what is left of the rule: after the parts that the table takes, after the sum, after the size, after the head
 
 abbrev pub behind_rest : Bool → ℕ → (head rest : Diagram) → Eval Diagram
 behind_rest writes n h rest = sized (Seq rest (Table (table_numbers n h) writes))
@@ -213,7 +213,7 @@ pub some_rest : (writes : Bool) (rs : List Diagram) → all_outputs rs ≡ table
 some_rest writes [] h e = some_outputs writes h
 some_rest writes (r ∷ rs) h e = absurd (cc)
 
--- ---- a table behind a diagram
+-- ---- a table after a diagram
 
 pub behind_fits : (d : Diagram) (T : List ℤ) (writes : Bool) → outputs d ≡ table_inputs writes
     → put_after (misfit (Seq d (Table T writes))) (Seq d (Table T writes)) ≡ sized (Seq d (Table T writes))
@@ -237,7 +237,7 @@ behind_makes a b c d taken list table T writes r l fits listed e tabled drawn pu
     (subst (λ (x : Diagram). Makes c d (put_after (misfit x) x) r) same
     (puts_makes c d (tree_with c.diagrams (node.Seq taken table)) r put.tables p))
 
--- ---- what was there before the head was put, behind the sum
+-- ---- what was there before the head was put, after the sum
 
 pub rest_stays : (a b c : Canvas) (ids : List ℕ) → Extends a b → c.diagrams ≡ b.diagrams → AreThere a.diagrams ids
     → trees_of c.diagrams ids ≡ trees_of a.diagrams ids

@@ -15,7 +15,7 @@ use Rattle.fv_eval_drawing.specs.Wires.{AreWires, IsWired, side_by_side}
 use Rattle.fv_eval_drawing.proofs.Arenas.{extends_on}
 use Rattle.fv_eval_drawing.proofs.Turns.{further}
 
--- so many wires are put, of at most as many
+-- N wires are put, of at most as many
 pub record Widens (a0 a : Canvas) (count wire whole done : ℕ) : Type 0 where
   pub adds : AddsDiagrams a0 a
   pub is_wire : Draws a.diagrams wire (Primitive prim.Wire)
@@ -41,7 +41,7 @@ one_more : (k : ℕ) (s : State) → 1 ≤ k → side_by_side (k + 1) s ≡ afte
 one_more zero s l = absurd (omega (arith, l))
 one_more (suc n) s l = let e : suc n + 1 ≡ suc (suc n) = omega arith in ap (λ j. side_by_side j s) e
 
--- behind so many wires comes what putting one more gives
+-- after N wires comes what putting one more gives
 turned : (a : Arena) (wire whole k : ℕ) (s : State) → Draws a wire (Primitive prim.Wire) → IsWired a k whole → 1 ≤ k
     → side_by_side (k + 1) s ≡ put (Par (tree_of a wire) (tree_of a whole)) s
 turned a wire whole k s d w l =
@@ -88,7 +88,7 @@ widens_on a0 a b count wire whole done next i so l e g k = record {
   most = omega (arith, e, l);
 }
 
--- ---- wires behind other diagrams
+-- ---- wires after other diagrams
 
 -- they are put as one diagram
 pub packed : (n : ℕ) (c : Diagram) (ds : List Diagram) (s : State) → ((t : State) → side_by_side (suc n) t ≡ Ok (c, t))

@@ -14,7 +14,7 @@ use Rattle.fv_rules.specs.headline.Steps.{State, control, labelled}
 abbrev pub AreLabels : List (Vec ℕ Global) → List ControlInfo → Type 0
 AreLabels keys cs = map (λ (key : Vec ℕ Global). key.items) keys ≡ map (λ (c : ControlInfo). c.label) cs
 
--- The control's number, and the controls behind it, are what the rules give; or it is refused so, or memory ran out.
+-- The control's number, and the controls after it, are what the rules give; or it is refused so, or memory ran out.
 abbrev pub Enters : (old new : List ControlInfo) → ControlInfo → Result ℕ EvalRefusal → Type 0
 Enters old new c (Ok k) = (s : State) → s.controls ≡ old → control c s ≡ Ok (Control k, record s { controls = new })
 Enters old new c (Err e) = (e ≡ NoMemory) ⊎ ((s : State) → s.controls ≡ old → control c s ≡ Err e)

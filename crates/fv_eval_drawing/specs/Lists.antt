@@ -12,7 +12,7 @@ use Rattle.fv_eval_drawing.specs.Makes.{AreThere, Becomes, Canvas, trees_of}
 use Rattle.fv_eval_drawing.specs.declared.lists.Link.{Link}
 use Rattle.fv_eval_drawing.specs.declared.lists.Link.TheVariants as link
 
--- the composition that puts parts side by side, or behind one another
+-- the composition that puts parts side by side, or after one another
 abbrev pub linked : Link → Diagram → Diagram → Diagram
 linked link.Parallel a b = Par a b
 linked link.Sequence a b = Seq a b
@@ -27,7 +27,7 @@ abbrev pub all_from_left : Op → List Diagram → Eval Diagram
 all_from_left op [] = refuse (IterationCount (pos 0))
 all_from_left op (d ∷ ds) = from_left (prim.Point op) d ds
 
--- What a diagram is fed with, where so many of its inputs are given by arguments: the arguments, with wires for the others. A
+-- What a diagram is fed with, where k of its inputs are given by arguments: the arguments, with wires for the others. A
 -- primitive of two inputs takes one argument as its second input.
 abbrev pub filled : ℕ → Diagram → List Diagram → List Diagram
 filled k f ds = if takes_the_right f && nat_eq k 1 then Primitive prim.Wire ∷ ds else ds ++ wires (inputs f - k)

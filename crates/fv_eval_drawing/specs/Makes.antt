@@ -57,7 +57,8 @@ abbrev pub Makes : (old new : Canvas) → Eval Diagram → Result ℕ EvalRefusa
 Makes old new m (Ok i) = (i < count_of new.diagrams) × Becomes old new m (give (tree_of new.diagrams i))
 Makes old new m (Err e) = (e ≡ NoMemory) ⊎ Becomes old new m (refuse e)
 
--- the same of an evaluation that gives it as a value
+-- The evaluation gives the diagram with this number as a value, and changes nothing else than the table sum; or it refuses so, or
+-- memory ran out.
 abbrev pub MakesValue : (old new : Canvas) → Eval Value → Result ℕ EvalRefusal → Type 0
 MakesValue old new m (Ok i) = (i < count_of new.diagrams) × Becomes old new m (give (Flat (tree_of new.diagrams i)))
 MakesValue old new m (Err e) = (e ≡ NoMemory) ⊎ Becomes old new m (refuse e)

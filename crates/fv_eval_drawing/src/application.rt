@@ -41,7 +41,7 @@ impl Drawing {
         }
     }
 
-    // Whether so many outputs are the second input of a diagram.
+    // Whether `given` outputs are the second input of a diagram.
     fn takes_one(&self, function: DiagramId, given: u64) -> bool
         requires { function < count_of self.now.diagrams }
         ensures { result ≡ (takes_the_right (tree_of self.now.diagrams function) && nat_eq given 1) }
@@ -71,7 +71,7 @@ impl Drawing {
         }
     }
 
-    // The arguments, with so many wires behind them, which are one diagram.
+    // The arguments, and after them `count` wires as one diagram.
     fn fill_behind(
         &mut self,
         parts: Vec<DiagramId>,
@@ -141,7 +141,7 @@ fn with_one_before(mut parts: Vec<DiagramId>, part: DiagramId) -> Result<Vec<Dia
     Ok(parts)
 }
 
-// A part behind others.
+// A part after others.
 fn with_one_behind(mut parts: Vec<DiagramId>, part: DiagramId) -> Result<Vec<DiagramId>, AllocError>
     ensures { IfOk result (λ v. v.items ≡ parts.items ++ part ∷ []) }
 {

@@ -137,7 +137,7 @@ fn is_alike(a: &ControlInfo, b: &ControlInfo) -> bool
     is_kind(a.kind, b.kind) && (a.init == b.init && (a.min == b.min && a.max == b.max))
 }
 
-// The same, where the one has the other's label.
+// Whether a control of this kind, init, min and max is the known one again, where both have one label.
 fn is_again(range: &Range, known: &ControlInfo) -> bool
     ensures { (label : List ℕ) → result ≡ is_alike (info_of range.now label) known.now }
 {

@@ -27,14 +27,18 @@ use fv_rules::{EvalRefusal, put, too_many_to_keep};
 use std::alloc::{AllocError, Global};
 use std::marker::Model;
 
-/// The diagrams of an evaluation, with the numbers of those that were asked for, and the wires that were put side by side. Each
-/// is composed.
+/// The diagrams of an evaluation, with what is remembered of them.
 #[derive(Drop)]
 pub struct Drawing {
+    // Where the lists take their memory.
     pub(crate) alloc: Global,
+    // The diagrams that were put. Each is composed: the conditions of its compositions hold.
     pub(crate) diagrams: Diagrams,
+    // A memo of the numbers of diagrams that were asked for.
     numbers: Numbers,
+    // The diagrams of wires side by side, by their count.
     pub(crate) wires: Wires,
+    // A cache of the diagrams that were put last, by their nodes.
     recent: Recent,
     // The table sum.
     pub(crate) tables: u64,

@@ -57,7 +57,7 @@ impl Labels {
         }
     }
 
-    /// A control with this label was met. What there is no memory for is forgotten.
+    /// Remembers that the control with this label has this number. What there is no memory for is forgotten.
     pub fn keep(&mut self, label: u64, number: u32)
         ensures { (p : Parsed) (cs : List ControlInfo) → AreLabelled p cs self.old → HasLabel cs (label_of p.tokens label) number
             → AreLabelled p cs self.new }
@@ -65,7 +65,7 @@ impl Labels {
         let _refused = self.remember(label, number);
     }
 
-    // The same, unless memory runs out.
+    // Remembers that the control with this label has this number. Where memory runs out, nothing is remembered.
     fn remember(&mut self, label: u64, number: u32) -> Result<(), AllocError>
         ensures { (p : Parsed) (cs : List ControlInfo) → AreLabelled p cs self.old → HasLabel cs (label_of p.tokens label) number
             → AreLabelled p cs self.new }

@@ -14,7 +14,7 @@ use fv_num::Op;
 use fv_parse_grammar::Iteration;
 use fv_rules::EvalRefusal;
 
-/// How the parts of a list are put together: side by side, or behind one another.
+/// How the parts of a list are put together: side by side, or after one another.
 #[derive(Clone, Copy, Debug)]
 pub enum Link {
     Parallel,

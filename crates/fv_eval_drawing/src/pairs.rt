@@ -84,7 +84,7 @@ impl Drawing {
         self.operate(Prim::Point(Op::Sub), zero, diagram)
     }
 
-    /// So many binds around a body, of the slots from this one on.
+    /// Puts `slots` binds around a body, of the slots from `slot` on.
     pub fn bind_all(
         &mut self,
         slot: u64,

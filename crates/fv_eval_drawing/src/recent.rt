@@ -6,12 +6,12 @@ use fv_diagram::{DiagramId, Node, Prim};
 use std::alloc::{AllocError, Global};
 use std::marker::Model;
 
-/// So many places there are at first, and at most: powers of two.
+/// How many places there are at first; then they double up to `MOST`. Both are powers of two.
 const FEWEST: usize = 256;
 
 const MOST: usize = 65_536;
 
-/// Diagrams that were put. Each node has one place, which it may lose to others.
+/// A direct-mapped cache of diagrams that were put. Each node has one place; a later one evicts what it has.
 #[derive(Drop)]
 pub(crate) struct Recent {
     places: Vec<DiagramId>,

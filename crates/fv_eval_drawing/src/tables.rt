@@ -21,7 +21,7 @@ use fv_rules::{EvalRefusal, TableCause, too_many_to_count};
 use std::alloc::AllocError;
 
 impl Drawing {
-    // What a node puts a table behind, and whether that table is written; `None` where the node is put as it is.
+    // What a node puts a table after, and whether that table is written; `None` where the node is put as it is.
     pub(crate) fn before_table(&self, node: &Node) -> Option<(DiagramId, bool)>
         requires { ChildrenBelow (count_of self.now.diagrams) node.now }
         ensures { PutsTable self.now.diagrams (tree_with self.now.diagrams node.now) result }
@@ -58,7 +58,7 @@ impl Drawing {
         }
     }
 
-    // A table in the place of its primitive, behind what it takes.
+    // A table in the place of its primitive, after what it takes.
     pub(crate) fn table(
         &mut self,
         before: DiagramId,
@@ -79,7 +79,7 @@ impl Drawing {
         }
     }
 
-    // The table of a head, behind what it takes. The sum is tried before a number is computed.
+    // The table of a head, put after what it takes. The sum is tried before a number is computed.
     fn table_of(
         &mut self,
         head: Vec<DiagramId>,
@@ -108,7 +108,7 @@ impl Drawing {
         self.table_behind(taken, values.as_slice(), writes)
     }
 
-    // A table of these numbers behind a diagram.
+    // A table of these numbers after a diagram.
     fn table_behind(
         &mut self,
         taken: DiagramId,
@@ -144,7 +144,7 @@ impl Drawing {
         Ok(wave)
     }
 
-    // The table sum grows by so much, unless it is then over the limit.
+    // Adds `cost` to the table sum, unless the sum is then over the limit.
     fn grow(&mut self, cost: u64) -> Result<(), EvalRefusal>
         ensures { GrowsBy self.old self.new cost result }
     {
@@ -236,7 +236,7 @@ impl Drawing {
         first_of(self.alloc, &self.diagrams, head)
     }
 
-    // So many numbers of its second output.
+    // The first `count` numbers of its second output.
     fn numbers(&self, head: DiagramId, count: u64) -> Result<Vec<i32>, AllocError>
         requires inside { head < count_of self.now.diagrams }
         requires fixed { is_fixed (tree_of self.now.diagrams head) ≡ true }

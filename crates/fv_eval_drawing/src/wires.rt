@@ -39,7 +39,7 @@ impl Wires {
         }
     }
 
-    /// The diagram of so many wires, where it is kept.
+    /// The diagram of `count` wires, where it is kept.
     pub(crate) fn get(&self, count: u64) -> Option<DiagramId>
         ensures { (a : Arena) → AreWires a self.now → IfSome result (IsWired a count) }
     {
@@ -49,8 +49,8 @@ impl Wires {
         self.kept.get((count - 2) as usize).copied()
     }
 
-    /// Keeps the diagram of so many wires, where that of one wire less is the last one that is kept. What there is no memory
-    /// for is not kept.
+    /// Keeps the diagram of `count` wires, where that of one wire less is the last one that is kept. What there is no memory for is
+    /// not kept.
     pub(crate) fn keep(&mut self, count: u64, id: DiagramId)
         ensures { (a : Arena) → AreWires a self.old → IsWired a count id → AreWires a self.new }
     {
@@ -61,7 +61,7 @@ impl Wires {
 }
 
 impl Drawing {
-    /// So many wires side by side, put from the right.
+    /// Puts `count` wires side by side, from the right.
     pub(crate) fn wires(&mut self, count: u64) -> Result<DiagramId, EvalRefusal>
         requires { 1 ≤ count }
         ensures wired { IfOk result (IsWired self.new.diagrams count) }
@@ -84,7 +84,7 @@ impl Drawing {
         Ok(whole)
     }
 
-    // One wire more than so many.
+    // Puts one wire more beside `count` wires, or finds the diagram that is kept.
     fn wider(
         &mut self,
         wire: DiagramId,
@@ -114,14 +114,14 @@ impl Drawing {
         }
     }
 
-    // The diagram of so many wires, where it is kept.
+    // The diagram of `count` wires, where it is kept.
     fn kept_wires(&self, count: u64) -> Option<DiagramId>
         ensures { IfSome result (IsWired self.now.diagrams count) }
     {
         self.wires.get(count)
     }
 
-    // Keeps the diagram of so many wires.
+    // Keeps the diagram of `count` wires.
     fn keep_wires(&mut self, count: u64, id: DiagramId)
         requires { IsWired self.old.diagrams count id }
         ensures { self.new ≡ self.old }

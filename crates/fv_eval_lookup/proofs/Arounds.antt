@@ -48,7 +48,7 @@ root_outermost p scopes forks = record { made = tt; there = nothing_there forks 
     go name zero at h = h
     go name (suc n) at h = absurd (none-some h.1.0 h.1.1)
 
--- behind a scope that is passed only where it has nothing of a name
+-- after a scope that is passed only where it has nothing of a name
 nearest_on : (p : Parsed) (scopes : List code_scope.Scope) (name list env outer : ℕ) (s : code_scope.Scope) → scope_in scopes env ≡ Some s
     → outer_number s ≡ outer → ((StopsAt name list (key_of s) → ⊥) → HasNothing p name env s) → IsNearest p scopes name outer list
     → IsNearest p scopes name env list

@@ -17,7 +17,7 @@ record Passes {X : Type 0} (p : X → Bool) (xs : List X) (a n : ℕ) : Type 0 w
   behind : (k : ℕ) (d : X) → a + n ≤ k → k < length xs → p (get_or xs k d) ≡ false
   inside : a + n ≤ length xs
 
--- the same behind the first one
+-- the same after the first one
 shorter : {X : Type 0} (p : X → Bool) (x : X) (xs : List X) (a n b m : ℕ) → b ≡ a - 1 → b + m ≡ a + n - 1 → Passes p (x ∷ xs) a n → Passes p xs b m
 shorter p x xs a n b m e f h = record {
   before = λ k d l. h.before (suc k) d (omega (arith, l));

@@ -179,7 +179,7 @@ pub side_part : (ss more : List Side) (s : Side) (n : ℕ) (o : Operator) (x p q
     → pattern_part more y ≡ pattern_part ss x
 side_part ss more s n o x p q y e is at = ap (pattern_part more) (sym at) ∙ sym (ap₂ pattern_part e is)
 
--- the same of a diagram
+-- no part of a diagram that has a number, or is no composition, is told by a side
 pub no_diagram_part : (ss more : List Side) (s : Side) (d : Diagram) → ss ≡ s ∷ more → both_without (number_of d) d ≡ None → diagram_part ss d ≡ None
 no_diagram_part ss more s d e none =
     ap (λ ts. diagram_part ts d) e ∙ ap (λ ps. and_then ps (λ xy. diagram_part more (side_of s xy.0 xy.1))) none

@@ -22,8 +22,8 @@ HasNone p list name =
 abbrev pub StopsAt : (name list key : ℕ) → Type 0
 StopsAt name list key = (key ≡ name) ⊎ (key ≡ list)
 
--- No list that is nearer to an environment than this one has a definition of a name: a way outward that passes neither the
--- name nor this list passes nothing of the name.
+-- The list is the nearest one around an environment that may define a name. Outward from there, no scope has anything of the name
+-- before the name is bound or the list is met.
 abbrev pub IsNearest : Parsed → List code_scope.Scope → (name env list : ℕ) → Type 0
 IsNearest p scopes name env list = (n at : ℕ) → PassesBy scopes (StopsAt name list) n env at → SkipsBy p scopes name n env at
 
@@ -32,13 +32,14 @@ abbrev pub WasMade : List code_scope.Scope → ℕ → Type 0
 WasMade scopes zero = Unit {0}
 WasMade scopes (suc i) = (s : code_scope.Scope) × (slice_get scopes i ≡ Some s)
 
--- In the tree with this root each name leads to the nearest list around an environment that has it.
+-- In the trie with this root, each name leads to the nearest list around an environment that has it.
 pub record IsRoot (p : Parsed) (scopes : List code_scope.Scope) (forks : List Fork) (env root : ℕ) : Type 0 where
   pub made : WasMade scopes env
   pub there : AreThere forks NAME_BITS root
   pub leads : (name : ℕ) → IsNearest p scopes name env (found forks NAME_BITS root name)
 
--- In the tree with this root each name leads to a list, or where the list has no definition of it to where another tree leads.
+-- In the trie with this root, each name leads to the list, if that has a definition of it. Every other name leads to where it leads
+-- in the trie of the lists around.
 pub record IsNested (p : Parsed) (forks : List Fork) (list around root : ℕ) : Type 0 where
   pub outer : AreThere forks NAME_BITS around
   pub there : AreThere forks NAME_BITS root

@@ -37,7 +37,7 @@ both_of (Merge x y) = Some (x, y)
 both_of (Rec x y) = Some (x, y)
 both_of d = None
 
--- the same of one that has no number
+-- the parts of a diagram without a number that is put as a composition
 abbrev pub both_without : Option ℤ → Diagram → Option (Diagram × Diagram)
 both_without (Some n) d = None
 both_without None d = both_of d
@@ -115,7 +115,7 @@ abbrev pub IsWanted : List Wanted → ℕ → Type 0
 IsWanted [] j = ⊥
 IsWanted (w ∷ ws) j = (j ≡ w.rule) ⊎ IsWanted ws j
 
--- So many rules were looked at: those that want nothing there, and the others by what they want.
+-- The first count rules were looked at: those that want nothing there, and the others by what they want.
 pub record Sorts (rules : List Rule) (x : Path) (count : ℕ) (free : List ℕ) (ws : List Wanted) : Type 0 where
   pub free_ones : (j : ℕ) (r : Rule) → j < count → slice_get rules j ≡ Some r → want_at x r ≡ None → has free j ≡ true
   pub others : (j k : ℕ) (r : Rule) → j < count → slice_get rules j ≡ Some r → want_at x r ≡ Some k → IsWanted (filter (is_for k) ws) j

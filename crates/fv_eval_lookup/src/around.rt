@@ -14,10 +14,10 @@ use fv_eval_scopes::{Scope, Scopes, Tries, outer_of};
 use fv_parse::TreeId;
 use std::alloc::{AllocError, Global};
 
-/// So many bits has the number of a name of a text at most.
+/// The most bits that the number of a text's name has.
 const NAME_BITS: u64 = 20;
 
-/// A list within others, and the roots of the trees of those and of it.
+/// A list within others, the root of the trie of those, and the root of the trie with the names of the list too.
 #[derive(Clone, Copy)]
 pub(crate) struct Nested {
     list: u64,
@@ -25,15 +25,14 @@ pub(crate) struct Nested {
     root: u64,
 }
 
-/// For environments a tree each, in which a name leads to the nearest list around that has a definition of it, or to 0.
-/// Environments that have the same lists around them have one tree.
+/// A trie for each environment, from a name to the nearest enclosing list that has a definition of it, or to 0. Environments within
+/// the same lists share a trie.
 #[derive(Drop)]
 pub(crate) struct Around {
     tries: Tries,
-    /// The roots of the trees of environments, from the first one on. That of the outermost one, which has no list around it,
-    /// is 0.
+    /// By environment, from the first one on: the root of its trie. That of the outermost one, which has no list around it, is 0.
     roots: Vec<u64>,
-    /// For each list how it was nested the last time.
+    /// By list: how it was nested the last time.
     nested: Vec<Option<Nested>>,
 }
 
@@ -49,7 +48,7 @@ impl Around {
         }
     }
 
-    // The root of the tree of an environment, where it is known.
+    // The root of the trie of an environment, where it is known.
     fn root(&self, env: u64) -> Option<u64>
         ensures { (p : Parsed) (scopes : List AScope) → AreAround p scopes self.now → IfSome result (IsRoot p scopes self.now.tries env) }
     {
@@ -82,7 +81,7 @@ impl Around {
         }
     }
 
-    // The root of the tree of an environment with this innermost scope.
+    // The root of the trie of an environment with this innermost scope.
     fn root_of(&mut self, definitions: &Definitions, scope: &Scope) -> Option<u64>
         ensures same { self.new.roots ≡ self.old.roots }
         ensures kept { (scopes : List AScope) → AreAround definitions.now scopes self.old → AreAround definitions.now scopes self.new }
@@ -99,7 +98,7 @@ impl Around {
         }
     }
 
-    // The root of the tree of a list within others.
+    // The root of the trie of a list within others.
     fn nest(
         &mut self,
         definitions: &Definitions,
@@ -126,7 +125,7 @@ impl Around {
         Ok(root)
     }
 
-    // The same, where the list was so nested the last time.
+    // The root of the trie of a list within others, where the list stood within the same ones the last time.
     fn known(&self, list: TreeId, around: u64) -> Option<u64>
         ensures { (p : Parsed) (scopes : List AScope) → AreAround p scopes self.now → IfSome result (IsNested p self.now.tries list around) }
     {

@@ -1,4 +1,4 @@
-// The rules at a place, told apart by what they want at positions of their arguments.
+// An index of the rules at a place, by what they want at positions of their arguments.
 
 ghost use Rattle.std.specs.Prelude.{ℕ, ◌≡◌, ◌<◌, ◌≤◌, List, All, IfOk, IfSome, OnOk, Some, map};
 ghost use Rattle.fv_parse.specs.Trees.{size_of, tree_in};
@@ -18,13 +18,13 @@ use fv_parse::Tree;
 use std::alloc::{AllocError, Global};
 use std::collections::VecDeque;
 
-/// So many rules are told apart; fewer are tried one after the other.
+/// The fewest rules that get an index; fewer are tried one after the other.
 const FEWEST: usize = 16;
 
-/// At most so many positions are kept.
+/// The most positions that are kept.
 const MOST_POSITIONS: usize = 32;
 
-/// At most so many positions are looked at beside the arguments themselves.
+/// The most positions that are looked at beside the arguments themselves.
 const MOST_WITHIN: usize = 64;
 
 /// The rules at a place, and what they want at positions of their arguments.
@@ -82,7 +82,7 @@ fn arguments(alloc: Global, tree: &Tree, rules: Rules) -> Result<VecDeque<Path>,
 }
 
 impl RuleIndex {
-    /// The rules at a place, where there are many and some are told apart.
+    /// An index of the rules at a place; `None` where they are few, or no position tells some from others.
     pub(crate) fn new(
         alloc: Global,
         tree: &Tree,

@@ -25,10 +25,11 @@ use fv_parse::{Tree, TreeId, TreeNode, same_names};
 use std::alloc::{AllocError, Global};
 use std::marker::Model;
 
-/// So many steps are taken one by one before what has nothing of a name is passed at once.
+/// How many steps a look-up takes scope by scope, before the tries pass many scopes at once.
 const ON_FOOT: u64 = 4;
 
-/// Where a look-up may go on from an environment: to the one around it, or by a shortcut, which may lead nowhere.
+/// Where a look-up may go on from the environment `at`: to `outer`, the one around it, or to `direct`, by a shortcut. A shortcut
+/// that leads nowhere leads to `at`.
 #[derive(Clone, Copy)]
 struct Onward {
     at: u64,
@@ -36,14 +37,13 @@ struct Onward {
     direct: u64,
 }
 
-/// A tree with the definitions of each list in it, sorted by name, and an index of the rules at each place where there are
-/// many.
+/// A tree with the definitions of each list in it, sorted by name. Each place with many rules has an index of them.
 #[derive(Drop)]
 pub struct Definitions<'a> {
     tree: &'a Tree<'a>,
     lists: Vec<ByName>,
     indexes: Vec<RuleIndex>,
-    /// For each node at which rules stand, where among `indexes` to look for them.
+    /// By node at which rules stand: the index in `indexes` at which they may be.
     places: Vec<u64>,
 }
 
@@ -81,7 +81,7 @@ impl<'a> Definitions<'a> {
         Ok(definitions)
     }
 
-    // An index of the rules at each place.
+    // Makes an index of the rules at each place.
     fn index_all(&mut self, alloc: Global) -> Result<(), AllocError>
         ensures { OnOk result (self.new ≡ self.old) }
     {
@@ -93,7 +93,7 @@ impl<'a> Definitions<'a> {
         Ok(())
     }
 
-    // The same at a node: of the rules of a `case`, or of those of each name of a list of definitions.
+    // Makes an index at a node: of the rules of a `case`, or of those of each name of a list of definitions.
     fn index_at(&mut self, alloc: Global, id: TreeId) -> Result<(), AllocError>
         requires { id < size_of self.old }
         ensures { OnOk result (self.new ≡ self.old) }
@@ -107,7 +107,7 @@ impl<'a> Definitions<'a> {
         Ok(())
     }
 
-    // The same of the rules of each name of a list of definitions.
+    // Makes an index of the rules of each name of a list of definitions.
     fn index_functions(&mut self, alloc: Global, list: TreeId) -> Result<(), AllocError>
         requires { list < size_of self.old }
         ensures { OnOk result (self.new ≡ self.old) }
@@ -213,8 +213,8 @@ impl<'a> Definitions<'a> {
         Meaning::Unknown
     }
 
-    // The next environment to look at behind one that has nothing of a name: by a shortcut that leads outward, or else from
-    // the environment around it on, and after a few steps over all that has nothing of the name.
+    // The next environment that a look-up looks at. It takes the shortcut if that leads outward, else the environment around. After
+    // a few steps it also passes all enclosing scopes that the tries show to have nothing of the name.
     fn next(&self, scopes: &Scopes, around: &mut Around, way: &Onward, name: u64, steps: u64) -> u64
         requires { way.now.outer < way.now.at }
         ensures kept { AreAround self.now scopes.now.scopes around.old → AreAround self.now scopes.now.scopes around.new }
@@ -321,7 +321,7 @@ fn is_same(a: &Ruled, b: &Ruled) -> bool
     }
 }
 
-// What so many definitions of a name, of which this is the first one, make of it.
+// What the `count` definitions of a name make of it. `first` is the first of them.
 fn made(tree: &Tree, list: TreeId, first: TreeId, count: u64, env: u64) -> Meaning
     requires { first < size_of tree.now }
     ensures { IsMade tree.now list first count env result }

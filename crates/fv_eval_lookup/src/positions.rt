@@ -63,7 +63,7 @@ fn sort_out(
     Ok(wants)
 }
 
-// A row for each key that at least so many rules want.
+// A row for each key that at least `many` rules want.
 fn rows(alloc: Global, free: &Bits, wants: &Wants, many: usize) -> Result<Vec<Row>, AllocError>
     ensures { IfOk result (λ v. All (λ (r : ARow). HasBoth free.now (filter (is_for r.key) wants.now) r.rules) v.items) }
 {
@@ -99,7 +99,7 @@ impl Position {
         })
     }
 
-    /// Whether it tells some of so many rules from the others: enough of them want something, and not nearly all the same.
+    /// Whether it tells some of the `count` rules from the others: enough of them want something, and not nearly all the same.
     pub(crate) fn tells(&self, alloc: Global, count: usize) -> Result<bool, AllocError> {
         let same = self.wants.keys(alloc, count - count / 8)?;
         Ok(self.wants.len() >= count / 8 && same.is_empty())

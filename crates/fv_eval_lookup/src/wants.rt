@@ -58,7 +58,7 @@ impl Wants {
         &rest[..count]
     }
 
-    /// Each key that at least so many rules want.
+    /// Each key that at least `many` rules want.
     pub(crate) fn keys(&self, alloc: Global, many: usize) -> Result<Vec<u64>, AllocError> {
         let mut keys = Vec::new(alloc);
         let mut last = None;

@@ -101,7 +101,7 @@ both_have xs ys i j l h k = is_in zs j (word (cases_eq (j / 64) i))
 
 -- ---- the next place
 
--- a bit behind others
+-- a bit after others
 bit_at_shifted : (n s k : ℕ) → bit_at (n / 2 ^ s) k ≡ bit_at n (s + k)
 bit_at_shifted n s k = ap (λ m. m % 2) (div-div-eq-div-mul n (2 ^ s) (2 ^ k) ∙ ap (λ m. n / m) (sym (pow-add 2 s k)))
 

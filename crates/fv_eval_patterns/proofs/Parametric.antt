@@ -58,7 +58,7 @@ matched_onto l (tree.Binary s o p q) v bs =
     (λ d cs. matched_onto l p (Flat d) cs) (λ d cs. matched_onto l q (Flat d) cs)
 matched_onto l x v bs = refl
 
--- bindings of the code behind others
+-- bindings of the code after others
 pub shows_append : (w : World) (xs ys : List code_binding.Binding) (bs cs : Bindings) → ShowsBindings w xs bs → ShowsBindings w ys cs
     → ShowsBindings w (xs ++ ys) (cs ++ bs)
 shows_append w xs ys bs [] h k = subst (λ zs. ShowsBindings w zs bs) (sym (ap (λ zs. xs ++ zs) k ∙ append-nil xs)) h
@@ -175,7 +175,7 @@ second_misses p a b x lr halves g h =
     then_none None f k = refl
     then_none (Some y) f k = k y
 
--- what was added behind
+-- what was added after
 pub bound_behind : {p : Parsed} {a : Arena} {x : Pair} {before after : List code_binding.Binding} (n : ℕ) → AddsBound p a x before after → n ≡ length before
     → Binds p a x (drop n after)
 bound_behind {p} {a} {x} {before} {after} n h e =

@@ -121,7 +121,7 @@ row_without p rows s i row never h x l e = go (cases_lt x i)
     go (inr g) =
         let same : i ≡ x = omega (arith, l, g) in subst (λ j. (d : Diagram) → IsShape p rows s d → Never p j d) same never
 
--- there is no node behind the last one
+-- there is no node after the last one
 never_past : (p : Parsed) (x : ℕ) (d : Diagram) → size_of p ≤ x → Never p x d
 never_past p x d l bs =
     let n = length_trees p.entries in
@@ -135,7 +135,7 @@ whole_row p rows s n row all h x e d is = go (cases_lt x n)
     go (inl l) = h x l e d is
     go (inr g) = never_past p x d (omega (arith, all, g))
 
--- no row has what is behind the last one
+-- no row has what follows the last one
 pub marked_past : (rows : List (List ℕ)) (r x : ℕ) → length rows ≤ r → false ≡ marked rows r x
 marked_past rows r x l = sym (ap (λ w. has w x) (get_or_past rows r [] l) ∙ none_has x)
 

@@ -41,7 +41,7 @@ ShowsMatched w true found (Some bs) = ShowsBindings w found bs
 ShowsMatched w false found None = Unit {0}
 ShowsMatched w b found o = ⊥
 
--- the same of bindings that are handed out
+-- it matches, and these are the bindings that are handed out; or it does not
 abbrev pub ShowsMatch : World → Option (List code_binding.Binding) → Option Bindings → Type 0
 ShowsMatch w (Some found) (Some bs) = ShowsBindings w found bs
 ShowsMatch w None None = Unit {0}
@@ -66,7 +66,7 @@ pub record IsPair (p : Parsed) (a : Arena) (x : Pair) : Type 0 where
   pub diagram : x.diagram < count_of a
   pub composed : IsComposed (tree_of a x.diagram)
 
--- the name of a token was bound to a value behind the bindings so far
+-- the name of a token was bound to a value after the bindings so far
 pub record BindsName (p : Parsed) (n : ℕ) (u : code_value.Value) (before after : List code_binding.Binding) : Type 0 where
   pub name : ℕ
   pub pushed : after ≡ before ++ record { name = name; value = u } ∷ []

@@ -36,7 +36,7 @@ number_is k s = false
 abbrev pub Never : Parsed → ℕ → Diagram → Type 0
 Never p x d = (bs : Bindings) → matched p.tokens (tree_in p x) (Flat d) bs ≡ None
 
--- two nodes of the text, as patterns behind an operator, do not match the parts of a diagram
+-- two nodes of the text, as patterns after an operator, do not match the parts of a diagram
 abbrev pub DeniesParts : Parsed → Operator → ℕ → ℕ → Diagram → Type 0
 DeniesParts p o x y d = (bs : Bindings)
     → and_then (parts_without (number_of d) o d)

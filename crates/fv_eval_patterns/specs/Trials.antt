@@ -33,7 +33,7 @@ Binds p a x found =
 abbrev pub Misses : Parsed → Arena → Pair → Type 0
 Misses p a x = matched p.tokens (tree_in p x.pattern) (Flat (tree_of a x.diagram)) [] ≡ None
 
--- what a pattern binds stands behind the bindings so far
+-- what a pattern binds stands after the bindings so far
 pub record AddsBound (p : Parsed) (a : Arena) (x : Pair) (before after : List Binding) : Type 0 where
   pub found : List Binding
   pub is : after ≡ before ++ found
@@ -77,7 +77,7 @@ AllMiss p a whole [] = Says p a false whole
 AllMiss p a whole (Try x ∷ ts) = AllMiss p a whole ts
 AllMiss p a whole (Note x ∷ ts) = Says p a false x × AllMiss p a whole ts
 
--- Where a pair that is to be tried does not match, neither does the whole, nor what is to be noted behind it.
+-- Where a pair that is to be tried does not match, neither does the whole, nor what is to be noted after it.
 abbrev pub Leads : Parsed → Arena → Pair → List Task → Type 0
 Leads p a whole [] = Unit {0}
 Leads p a whole (Try x ∷ ts) = IsPair p a x × (Refuses p a x → AllMiss p a whole ts) × Leads p a whole ts

@@ -54,7 +54,7 @@ impl Subjects<'_> {
         Ok(matches)
     }
 
-    // The same without a trial.
+    // Whether patterns match, one after the other, without a trial of long ones; their bindings are added to those so far.
     fn bind_all(
         &self,
         patterns: &[TreeId],

@@ -31,7 +31,7 @@ impl Bits {
         }
     }
 
-    /// So many places, from the first one on.
+    /// The first `count` places.
     pub fn first(alloc: Global, count: u64) -> Result<Bits, AllocError>
         ensures { IfOk result (λ b. (j : ℕ) → j < count → has b j ≡ true) }
     {
@@ -67,7 +67,7 @@ impl Bits {
         mixed
     }
 
-    /// The same places.
+    /// A copy of the set.
     pub fn copy(&self, alloc: Global) -> Result<Bits, AllocError>
         ensures { IfOk result (λ b. b ≡ self.now) }
     {
@@ -101,7 +101,7 @@ impl Bits {
         }
     }
 
-    // A word; there is nothing behind the last one.
+    // A word; there is nothing after the last one.
     fn word(&self, i: u64) -> u64
         ensures { result ≡ slice_index_or self.now i 0 }
     {

@@ -19,10 +19,10 @@ use fv_eval_scopes::{Binding, Numbers, Value};
 use fv_parse::{TreeId, TreeNode};
 use std::alloc::AllocError;
 
-/// So many parts within one another are remembered each by itself.
+/// Down to this depth, what each part of a pattern binds is remembered by itself.
 const LEVELS: u64 = 64;
 
-/// What binds more than so many names is not remembered: a scope is kept for each of them.
+/// What binds more names than this is not remembered, since a scope is kept for each of them.
 const MANY: usize = 64;
 
 impl Subjects<'_> {
@@ -106,7 +106,8 @@ impl Subjects<'_> {
         Ok(true)
     }
 
-    // The same, part by part; what it binds is remembered where the pattern is long.
+    // Tries a pattern on a diagram, part by part. What it binds is added to the bindings so far, and is remembered where the
+    // pattern is long.
     fn binds_plainly(
         &self,
         pair: Pair,

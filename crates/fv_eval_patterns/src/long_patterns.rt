@@ -19,7 +19,7 @@ use fv_parse::{Tree, TreeId, TreeNode};
 use fv_rules::{literal, negative_literal};
 use std::alloc::{AllocError, Global};
 
-/// A pattern with so many parts is long.
+/// A pattern with at least this many parts is long.
 const LONG: u64 = 16;
 
 /// What is left to do.

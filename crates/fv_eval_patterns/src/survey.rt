@@ -21,13 +21,13 @@ use fv_rules::{literal, negative_literal};
 use std::alloc::{AllocError, Global};
 use std::marker::Model;
 
-/// A row costs as much as so many times fewer pairs that are tried as the text has nodes.
+/// A row costs as much as trying one pair for each `CHEAPER` nodes of the text.
 const CHEAPER: u64 = 16;
 
-/// At most so many bits are kept in rows, 256 MB.
+/// The most bits that are kept in rows: 256 MB.
 const MOST_BITS: u64 = 2_147_483_648;
 
-/// So many slots there are for shapes, and for rows by their bits.
+/// How many slots the cache of shapes has, and that of rows by their bits.
 const SLOTS: usize = 65_536;
 
 /// The row of diagrams of a shape.
@@ -45,16 +45,21 @@ pub enum Look {
     Part(DiagramId),
 }
 
-/// The rows that are known. Equal rows are kept once, each shape and each row has one slot, which it may lose to another one.
-/// Rows are made only once so much was tried without them that they cost no more than that did.
+/// The rows that are known. Both caches are direct-mapped: each shape and each row has one slot, and a later one evicts what it
+/// has. Rows are made only once the pairs that were tried without them have cost as much as they do.
 #[derive(Drop)]
 pub(crate) struct Survey {
+    // The rows, each once: the set of the nodes of the text that may match.
     rows: Vec<Bits>,
+    // A cache from shapes to rows.
     steps: Vec<Option<ShapeRow>>,
+    // By diagram: the index of its row, where it has one.
     of_diagrams: Vec<Option<u64>>,
+    // A cache from the bits of a row to its index.
     by_bits: Vec<u64>,
-    /// How many pairs were tried, and what rows cost so far, in such pairs.
+    /// How many pairs were tried.
     tried: u64,
+    /// What the rows cost so far, in pairs.
     spent: u64,
 }
 
@@ -234,7 +239,7 @@ impl Survey {
         Ok(())
     }
 
-    // So much was spent.
+    // Counts what was spent, in pairs.
     fn spend(&mut self, cost: u64)
         ensures { self.new ≡ self.old }
     {
@@ -347,7 +352,7 @@ impl Survey {
         }
     }
 
-    /// Gives a diagram its row, and its parts theirs, as far as so many pairs that were tried are worth it.
+    /// Gives a diagram its row, and its parts theirs, as far as the `tried` pairs pay for it.
     pub(crate) fn explore(
         &mut self,
         alloc: Global,

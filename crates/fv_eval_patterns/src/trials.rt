@@ -16,12 +16,12 @@ use fv_parse::Tree;
 use std::alloc::{AllocError, Global};
 use std::marker::Model;
 
-/// So many slots there are at first, and at most.
+/// How many slots there are at first; then they double up to `MOST`.
 const FEWEST: usize = 1024;
 
 const MOST: usize = 2_097_152;
 
-/// At most so many bindings are kept; then all is forgotten.
+/// The most bindings that are kept; then all is forgotten.
 const MOST_BINDINGS: usize = 2_097_152;
 
 /// What is known of a pattern and a diagram.
@@ -31,7 +31,7 @@ pub enum Outcome {
     Never,
     /// They may match.
     Maybe,
-    /// They match, and so many of the bindings that are kept, from one on, are what they bind.
+    /// They match. What they bind is the `count` kept bindings from index `from` on.
     Binds { from: u64, count: u64 },
 }
 
@@ -42,11 +42,14 @@ pub struct Trial {
     pub outcome: Outcome,
 }
 
-/// The trials that are remembered. Each pair of a pattern and a diagram has one slot, which it may lose to another pair.
+/// A memo of trials. Each pair of a pattern and a diagram has one slot; a later pair evicts what it has.
 #[derive(Drop)]
 pub struct Trials {
+    // The cache of trials, which is direct-mapped: each pair has one slot.
     slots: Vec<Trial>,
+    // What the pairs bind that are known to match; a trial has a range of it.
     bindings: Vec<Binding>,
+    // Which nodes of the text may match which diagrams.
     survey: Survey,
     /// How many were remembered.
     kept: u64,
@@ -143,7 +146,7 @@ impl Trials {
         }
     }
 
-    // So many bindings that are kept, from one on.
+    // The `count` kept bindings from index `from` on.
     fn range(&self, from: u64, count: u64) -> Option<&[Binding]>
         ensures { IfSome result (λ r. r.now ≡ take count (drop from self.now.bindings)) }
     {
@@ -194,7 +197,7 @@ impl Trials {
         Ok(())
     }
 
-    // Forgets all where there is no room for so many bindings more.
+    // Forgets all where there is no room for `more` bindings more.
     fn make_room(&mut self, more: usize)
         ensures { (p : Parsed) (a : Arena) → Recalls p a self.old → Recalls p a self.new }
     {

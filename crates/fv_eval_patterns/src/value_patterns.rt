@@ -131,6 +131,7 @@ pub(crate) fn matches_in(
 fn bind(tree: &Tree, n: u64, value: Value, found: &mut Vec<Binding>) -> Result<(), AllocError>
     ensures { OnOk result (BindsName tree.now n value found.old.items found.new.items) }
 {
+    // For the prover: the token with a token's canonical number has the same bytes.
     same_names();
     let name = tree.name(n);
     found.push(Binding { name, value })?;

@@ -109,7 +109,7 @@ abbrev mutual
   ShowsEnv w i (Scope ds E) =
       (id : TreeId) × (j : ℕ) × (scope_in w.scopes i ≡ Some (scope.Definitions id j)) × (j < i) × ShowsTree w id ds × ShowsEnv w j E
 
-  -- so many arguments, of which the last one has this number
+  -- a number of arguments, of which the last one has this number
   pub ShowsTaken : World → ℕ → ℕ → Taken → Type 0
   ShowsTaken w n i Nothing = n ≡ 0
   ShowsTaken w n i (And v T) =

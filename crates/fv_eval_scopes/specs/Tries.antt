@@ -13,12 +13,12 @@ abbrev pub child : List Fork → (node bit : ℕ) → ℕ
 child forks zero bit = 0
 child forks (suc i) bit = child_of (slice_get forks i) bit
 
--- where so many of a number's bits lead from a node, the lowest one first
+-- where N of a number's bits lead from a node, the lowest one first
 abbrev pub found : List Fork → (levels node number : ℕ) → ℕ
 found forks zero node number = node
 found forks (suc n) node number = found forks n (child forks node (number % 2)) (number / 2)
 
--- the nodes of so many levels are there
+-- the nodes of N levels are there
 abbrev pub AreThere : List Fork → (levels node : ℕ) → Type 0
 AreThere forks zero node = Unit {0}
 AreThere forks (suc n) node = (node ≤ length forks) × ((bit : ℕ) → AreThere forks n (child forks node bit))
@@ -27,7 +27,7 @@ AreThere forks (suc n) node = (node ≤ length forks) × ((bit : ℕ) → AreThe
 abbrev pub IsGrown : List Fork → List Fork → Type 0
 IsGrown old new = (more : List Fork) × (new ≡ old ++ more)
 
--- In a new tree a number has a value, and each other one that is told apart from it has what it had.
+-- In a new trie a number has a value, and each number with other lowest bits has what it had.
 pub record IsWith (old new : List Fork) (levels root number value with_it : ℕ) : Type 0 where
   pub there : AreThere new levels with_it
   pub leads : (k : ℕ) → (found new levels with_it k ≡ value)

@@ -9,7 +9,7 @@ use Rattle.fv_eval_scopes.specs.declared.value.Scope.TheVariants as scope
 use Rattle.fv_eval_scopes.specs.Environments.{scope_in, outer_number}
 use Rattle.fv_eval_scopes.specs.Tries.{found, AreThere}
 
--- what a scope is passed by: the name that it binds, or its list of definitions
+-- the key of a scope: the name that it binds, or its list of definitions
 abbrev pub key_of : code_scope.Scope → ℕ
 key_of (scope.Bound n u outer) = n
 key_of (scope.Definitions id outer) = id
@@ -19,7 +19,7 @@ abbrev pub HasOther : List code_scope.Scope → (ℕ → Type 0) → (env outer 
 HasOther scopes Keys env outer =
     (s : code_scope.Scope) × (scope_in scopes env ≡ Some s) × (outer_number s ≡ outer) × (outer < env) × (Keys (key_of s) → ⊥)
 
--- So many scopes, from an environment outward to another one, have none of these keys.
+-- This many scopes, from an environment outward to another one, have none of these keys.
 abbrev pub PassesBy : List code_scope.Scope → (ℕ → Type 0) → (count env at : ℕ) → Type 0
 PassesBy scopes Keys zero env at = env ≡ at
 PassesBy scopes Keys (suc n) env at = (outer : ℕ) × HasOther scopes Keys env outer × PassesBy scopes Keys n outer at

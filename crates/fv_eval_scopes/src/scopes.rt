@@ -85,7 +85,7 @@ impl Scopes {
         Ok(self.scopes.len() as u64)
     }
 
-    /// One argument more behind the one with this number: the number of the new one.
+    /// Adds an argument after the one with this number, and returns the number of the new one.
     pub fn take(&mut self, value: Value, before: u64) -> Result<u64, AllocError>
         ensures ok { IfOk result (λ i. (i ≡ length self.old.taken)
             × (self.new ≡ with_argument self.old (record { value = value; before = before }))) }
@@ -109,15 +109,15 @@ impl Scopes {
         self.scopes.get((env - 1) as usize).copied()
     }
 
-    /// An environment further outward, behind scopes that are all kept by other numbers; it may be the same. A scope is kept
-    /// by the name that it binds, or by its list of definitions.
+    /// An enclosing environment, or the same one, before which no scope outward has this key. The key of a scope is the name that
+    /// it binds, or its list of definitions.
     pub fn lead(&self, env: u64, key: u64) -> u64
         ensures { PassesTo self.now.scopes (λ m. m ≡ key) env result }
     {
         self.ways.lead(env, key)
     }
 
-    /// The arguments that rules have taken, in order: so many, of which the last one has this number.
+    /// The last `count` arguments that rules have taken, in order. The last one has the number `last`.
     pub fn arguments(&self, alloc: Global, count: u64, last: u64) -> Result<Vec<Value>, AllocError>
         ensures { IfOk result (λ v. (w : World) (T : Taken)
             → w.taken ≡ self.now.taken → ShowsTaken w count last T → ShowsValues w v.items (in_order T [])) }

@@ -1,4 +1,4 @@
-// Ways outward that look-ups have gone, remembered.
+// A cache of the ways outward that look-ups have gone.
 
 ghost use Rattle.std.specs.Prelude.{◌≡◌, ◌<◌, [], List, IfSome, length};
 ghost use Rattle.fv_parse.specs.Trees.{Parsed};
@@ -9,12 +9,12 @@ ghost use Rattle.fv_eval_scopes.specs.Outward.{SkipsTo};
 use std::alloc::{AllocError, Global};
 use std::marker::Model;
 
-/// So many slots there are at first, and at most.
+/// How many slots there are at first; then they double up to `MOST`.
 const FEWEST: usize = 1024;
 
 const MOST: usize = 1_048_576;
 
-/// So many steps of a look-up are few: nothing of them is remembered.
+/// A look-up of no more steps than these is short, and is not remembered.
 const FEW_STEPS: u64 = 16;
 
 /// From one environment outward to another one no scope has anything of a name.
@@ -25,7 +25,7 @@ pub struct Shortcut {
     pub to: u64,
 }
 
-/// The shortcuts that are remembered. Each name and environment has one slot, which it may lose to others.
+/// A direct-mapped cache of shortcuts. Each name and environment has one slot; a later one evicts what it has.
 #[derive(Drop)]
 pub struct Slots {
     slots: Vec<Shortcut>,
@@ -66,7 +66,8 @@ impl Slots {
         Some((mixed & (count - 1)) as usize)
     }
 
-    /// Outward by the shortcut of a name from an environment, after so many steps; where none is remembered it leads nowhere.
+    /// Where the shortcut of a name leads from an environment. Without one, or before `FEW_STEPS` steps, that is the environment
+    /// itself.
     pub fn outward(&self, name: u64, from: u64, steps: u64) -> u64
         ensures { (p : Parsed) (scopes : List AScope) → AreSlots p scopes self.now → SkipsTo p scopes name from result }
     {
@@ -84,8 +85,7 @@ impl Slots {
         }
     }
 
-    /// After so many steps of a look-up, as often as they have doubled, remembers the way from the last mark to here. It
-    /// answers the last mark.
+    /// Remembers the way from the last mark to here, each time that the steps of a look-up have doubled. Returns the last mark.
     pub fn mark(&mut self, name: u64, last: u64, here: u64, steps: u64) -> u64
         ensures skips { (p : Parsed) (scopes : List AScope) → SkipsTo p scopes name last here → SkipsTo p scopes name result here }
         ensures kept { (p : Parsed) (scopes : List AScope) → AreSlots p scopes self.old → SkipsTo p scopes name last here
@@ -98,8 +98,8 @@ impl Slots {
         here
     }
 
-    /// Remembers the way of a look-up from one environment to another, unless it had few steps. What there is no memory for
-    /// is not remembered.
+    /// Remembers the way of a look-up from one environment to another, unless it was short. What there is no memory for is not
+    /// remembered.
     pub fn keep(&mut self, name: u64, from: u64, to: u64, steps: u64)
         ensures { (p : Parsed) (scopes : List AScope) → AreSlots p scopes self.old → SkipsTo p scopes name from to
             → AreSlots p scopes self.new }
@@ -142,7 +142,7 @@ impl Slots {
     }
 }
 
-// Whether the steps of a look-up are no more few, and twice as many as when this was so before.
+// Whether a look-up is no longer short, and its steps have doubled since this was so last.
 fn has_doubled(steps: u64) -> bool {
     steps >= FEW_STEPS && steps & (steps - 1) == 0
 }

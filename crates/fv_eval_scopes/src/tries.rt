@@ -1,4 +1,4 @@
-// Binary trees that share what they have in common, in which a number is found by its lowest bits.
+// Binary tries with shared nodes, in which a number is found by its lowest bits.
 
 ghost use Rattle.std.specs.Prelude.{ℕ, ◌≡◌, ◌⊎◌, ◌<◌, ◌-◌, [], Some, IfOk};
 ghost use Rattle.fv_eval_scopes.specs.Tries.{child, child_of, found, AreThere, IsGrown, IsWith};
@@ -13,8 +13,8 @@ pub struct Fork {
     one: u64,
 }
 
-/// The nodes of all trees. Node 0 is a tree in which every number has the value 0; the others are numbered from 1 on. What
-/// was made is never changed: a tree with one value more has the rest of another one.
+/// The nodes of all tries. Node 0 is a trie in which every number has the value 0; the others are numbered from 1 on. No node is
+/// ever changed: a trie with one value more shares the rest with the one that it was made of.
 #[derive(Drop)]
 pub struct Tries {
     forks: Vec<Fork>,
@@ -52,8 +52,8 @@ impl Tries {
         }
     }
 
-    /// The value of a number in the tree of so many levels with this root. Numbers that have so many lowest bits in common
-    /// are not told apart.
+    /// The value of a number in the trie of `levels` levels with this root. It goes by the `levels` lowest bits: numbers with the
+    /// same ones have one value.
     pub fn find(&self, root: u64, levels: u64, number: u64) -> u64
         ensures { result ≡ found self.now levels root number }
     {
@@ -68,7 +68,8 @@ impl Tries {
         node
     }
 
-    /// A tree of so many levels in which this number has this value, and each other one what it has in another tree.
+    /// Makes a trie of `levels` levels in which this number has this value, and each other one what it has in the trie with this
+    /// root. Returns its root.
     pub fn with(
         &mut self,
         root: u64,

@@ -9,19 +9,18 @@ use crate::tries::Tries;
 use crate::value::{Ruled, Scope, Value};
 use std::alloc::{AllocError, Global};
 
-/// How many bits of a key a way outward goes by. Keys that have them in common are not told apart.
+/// How many bits of a key a trie goes by, the lowest ones. Keys with the same ones share an entry.
 const LEVELS: u64 = 12;
 
-/// A way outward over scopes. Each is kept by the name that it binds, or by its list of definitions: the tree with this root
-/// has, for each such number, the nearest environment whose scope is kept by it, or by another one that is not told apart
-/// from it. What is not there leads to the end of the way.
+/// A trie from the lowest bits of a key to the nearest enclosing environment whose scope may have that key. The key of a scope is
+/// the name that it binds, or its list of definitions. A key that is not there leads to the end of the way.
 #[derive(Clone, Copy, Debug)]
 pub(crate) struct Way {
     root: u64,
     end: u64,
 }
 
-/// The ways outward from environments, one for each but the outermost.
+/// The tries of environments: one for each but the outermost.
 #[derive(Drop)]
 pub(crate) struct Ways {
     tries: Tries,
@@ -60,7 +59,7 @@ impl Ways {
         self.ways.get(place as usize).copied()
     }
 
-    /// An environment further outward, behind scopes that are all kept by other numbers; it may be the same.
+    /// An enclosing environment, or the same one, before which no scope outward has this key.
     pub(crate) fn lead(&self, env: u64, key: u64) -> u64
         ensures { (scopes : List AScope) → AreWays scopes self.now → PassesTo scopes (λ m. m ≡ key) env result }
     {
@@ -69,7 +68,7 @@ impl Ways {
         if found == 0 { way.end } else { found }
     }
 
-    /// The way outward from one scope more.
+    /// Adds the way outward from one scope more.
     pub(crate) fn add(&mut self, scope: &Scope) -> Result<(), AllocError>
         ensures ok { IfOk result (λ _. (scopes : List AScope) → AreWays scopes self.old → AreWays (scopes ++ scope.now ∷ []) self.new) }
         ensures err { OnErr result ((scopes : List AScope) → AreWays scopes self.old → AreWays scopes self.new) }
@@ -84,7 +83,7 @@ impl Ways {
         }
     }
 
-    // The way outward from a scope with this key in an environment: it goes on where the one from there goes.
+    // Adds the way outward from a scope with this key: that of the environment around it, and this scope.
     fn go_on(&mut self, key: u64, outer: u64) -> Result<(), AllocError>
         ensures ok { IfOk result (λ _. (scopes : List AScope) (s : AScope) → key_of s ≡ key → outer_number s ≡ outer
             → outer ≤ length scopes → AreWays scopes self.old → AreWays (scopes ++ s ∷ []) self.new) }
@@ -97,7 +96,7 @@ impl Ways {
         Ok(())
     }
 
-    // A way that goes nowhere.
+    // Adds a way that goes nowhere.
     fn end(&mut self) -> Result<(), AllocError>
         ensures ok { IfOk result (λ _. (scopes : List AScope) (s : AScope) → AreWays scopes self.old → AreWays (scopes ++ s ∷ []) self.new) }
         ensures err { OnErr result ((scopes : List AScope) → AreWays scopes self.old → AreWays scopes self.new) }
@@ -117,7 +116,7 @@ pub fn outer_of(scope: &Scope) -> u64
     }
 }
 
-// What a scope is kept by.
+// The key of a scope.
 fn key_of(scope: &Scope) -> u64
     ensures { result ≡ key_of scope.now }
 {

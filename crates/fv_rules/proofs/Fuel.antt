@@ -352,7 +352,7 @@ ev_alike n l =
     }
 
 -- ---- evaluation follows its rules
--- with so many visits
+-- with N visits
 abbrev with_visits : ℕ → State → State
 with_visits v s = record s { visits = v }
 

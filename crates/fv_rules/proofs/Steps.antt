@@ -39,7 +39,7 @@ same_after (Ok x) f g h = h x.0 x.1
 same_after (Err r) f g h = refl
 
 module _ (value : FollowsValue) (diagram : FollowsDiagram) where
-  -- what stands behind is the same on both sides of a test
+  -- what follows is the same on both sides of a test
   choice_means : (l : Lexed) (b : Bool) (c d : Config) (m n : Eval Value) (K : Value → Eval Value) (s : State)
       → meaning l c ≡ (m >>= K) s → meaning l d ≡ (n >>= K) s → meaning l (if b then c else d) ≡ ((if b then m else n) >>= K) s
   choice_means l true c d m n K s p q = p

@@ -40,7 +40,7 @@ two : number_of (Seq (Par (Constant (pos 3)) (Constant (pos 1))) (Primitive (pri
 unfolding int_wrap
 two = refl
 
--- and `_` has none
+-- `_` has no number
 none : number_of (Primitive prim.Wire) ≡ None
 none = refl
 

@@ -153,7 +153,7 @@ abbrev pub visiting : Lexed → Outcome Unit → Tree → Env → List Continuat
 visiting l (Ok u) x env fs = begin l x env fs u.1
 visiting l (Err r) x env fs = Ended (Err r)
 
--- the same of a name
+-- a name is called where a visit was left
 abbrev pub calling : Lexed → Outcome Unit → Name → Env → List Continuation → Config
 calling l (Ok u) name env fs = begin_name name (lookup l env name) fs u.1
 calling l (Err r) name env fs = Ended (Err r)

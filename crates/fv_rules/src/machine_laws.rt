@@ -9,5 +9,6 @@ pub fn steps_mean()
     ensures steps { StepsMean }
     ensures starts { StartsMean }
 {
+    // For the prover: what an evaluation is, visit by visit.
     evaluation_follows();
 }

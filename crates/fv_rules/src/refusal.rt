@@ -22,7 +22,7 @@ pub enum TableCause {
 /// Why a program has no diagram.
 #[derive(Debug, Drop)]
 pub enum EvalRefusal {
-    /// A diagram would have so many nodes, counted as a tree.
+    /// A diagram would have `size` nodes, counted as a tree.
     SizeBudget {
         size: u32,
     },
@@ -74,7 +74,7 @@ pub enum EvalRefusal {
     TableForm {
         cause: TableCause,
     },
-    /// The waveforms and tables of the program would cost so much together, which is over the limit.
+    /// The waveforms and tables of the program would cost `sum` together, which is over the limit.
     TableBudget {
         sum: u64,
     },

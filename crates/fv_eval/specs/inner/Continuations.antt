@@ -108,7 +108,7 @@ abbrev pub parameters_of : Tree → List Tree
 parameters_of (tree.Slider s k n x0 x1 x2 x3) = x0 ∷ x1 ∷ x2 ∷ x3 ∷ []
 parameters_of x = []
 
--- a slider, of whose parameters so many are done
+-- a slider, of whose parameters some are done
 pub record ShowsSlider (w : World) (slider e done : ℕ) (kind : SliderKind) (label : List ℕ) (E : Env) (xs : List Tree) : Type 0 where
   pub s : ℕ
   pub n : ℕ
@@ -255,7 +255,7 @@ pub record Grew (p : Parsed) (old new : code_machine.Machine) : Type 0 where
   pub state : state_of new ≡ state_of old
   pub knows : Knows p old → Knows p new
 
--- Lists have grown, so many slots were taken, and nothing else has changed.
+-- Lists have grown, this many slots were taken, and nothing else has changed.
 pub record Slots (p : Parsed) (old new : code_machine.Machine) (count : ℕ) : Type 0 where
   pub lists : Grows (world p old) (world p new)
   pub continuations : new.continuations ≡ old.continuations
@@ -268,7 +268,7 @@ Begins p old new r env x = (E : Env) → ShowsEnv (world p old) env E → Steps 
 
 -- ---- application
 
--- A function with one argument more, where it wants others behind it.
+-- A function with one argument more, where it wants others after it.
 abbrev pub took : Value → Value → Option Value
 took (Abstraction x (y ∷ ys) b E) a = Some (Abstraction y ys b (Bound x a E))
 took (Rules s rs E T) a = if nat_lt (count_taken (And a T)) (width rs) then Some (Rules s rs E (And a T)) else None
@@ -300,13 +300,13 @@ Selects p m n r app choice e us at =
     → ShowsEnv (world p m) e E → ShowsValues (world p m) (drop at us) (a ∷ more) → ShowsChoice (world p m) choice o
     → Steps p m n r (λ Fs t. select p.tokens s E o more Fs t)
 
--- what was taken shows that
+-- A value of the code shows the value that was taken; or there is neither.
 abbrev pub ShowsTaking : World → Option code_value.Value → Option Value → Type 0
 ShowsTaking w None None = Unit {0}
 ShowsTaking w (Some u) (Some v) = ShowsValue w u v
 ShowsTaking w o q = ⊥
 
--- a name that may be there shows that
+-- A number of the code shows a name: it is the canonical number of a token with these bytes. Or there is neither.
 abbrev pub ShowsName : Lexed → Option ℕ → Option Name → Type 0
 ShowsName l None None = Unit {0}
 ShowsName l (Some n) (Some x) = (text_of l n ≡ x) × (first_named l n ≡ n)

@@ -130,7 +130,7 @@ feeds_with a b f (d ∷ ds) r k h fit =
     subst (λ (x : Eval Value). MakesValue a b x r) (sym (fed_filled f d ds l'))
     (as_value a b (feeding f (filled (all_outputs (d ∷ ds)) f (d ∷ ds))) r h')
 
--- a function behind what was put side by side
+-- a function after what was put side by side
 pub leads : (a b c : Canvas) (f g : Diagram) (all : ℕ) (r : Result ℕ EvalRefusal) (ds : List Diagram)
     → Makes a b (all_from_right (linked link.Parallel) ds) (Ok all) → g ≡ f → Makes b c (put (Seq (tree_of b.diagrams all) g)) r
     → Makes a c (feeding f ds) r
@@ -143,7 +143,7 @@ pub leads_not : (a b : Canvas) (f : Diagram) (x : EvalRefusal) (ds : List Diagra
 leads_not a b f x ds (inl h) = inl h
 leads_not a b f x ds (inr h) = inr (λ s. ap (λ o. after o (λ d. put (Seq d f))) (h s))
 
--- the inputs were filled up, and then the function was put behind them
+-- the inputs were filled up, and then the function was put after them
 pub feeds : (a b c : Canvas) (f g : Diagram) (r : Result ℕ EvalRefusal) (k : ℕ) (xs ys : List Diagram)
     → Becomes a b (all_from_right Par (filled k f xs)) (all_from_right Par ys) → g ≡ f → Makes b c (feeding g ys) r → AreFor f k xs
     → MakesValue a c (fed f xs) r

@@ -20,17 +20,17 @@ writes_of prim.ReadTable = Some false
 writes_of prim.WriteTable = Some true
 writes_of p = None
 
--- the same of a diagram
+-- whether the table of a diagram that is a table primitive is written; none of every other diagram
 abbrev pub as_table : Diagram → Option Bool
 as_table (Primitive p) = writes_of p
 as_table d = None
 
--- The table sum grew by so much, and nothing else changed; or that is refused.
+-- The table sum grew by the number, and nothing else changed; or that is refused.
 abbrev pub GrowsBy : (old new : Canvas) → ℕ → Result Unit EvalRefusal → Type 0
 GrowsBy old new n (Ok u) = (new.diagrams ≡ old.diagrams) × Becomes old new (grow n) (give tt)
 GrowsBy old new n (Err e) = (new.diagrams ≡ old.diagrams) × ((e ≡ NoMemory) ⊎ Becomes old new (grow n) (refuse e))
 
--- Putting a diagram puts a table behind this one, which gives what the table and its head take; or the diagram is put as it is.
+-- Putting a diagram puts a table after this one, which gives what the table and its head take; or the diagram is put as it is.
 abbrev pub PutsTable : Arena → Diagram → Option (ℕ × Bool) → Type 0
 PutsTable a d None = put d ≡ put_after (misfit d) d
 PutsTable a d (Some x) =

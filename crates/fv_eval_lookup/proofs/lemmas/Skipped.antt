@@ -18,7 +18,7 @@ pub skips_one : (p : Parsed) (scopes : List code_scope.Scope) (name env : ℕ) (
     → outer_number s < env → HasNothing p name env s → SkipsTo p scopes name env (outer_number s)
 skips_one p scopes name env s is l none = (1, (s, is, l, none, refl))
 
--- one way behind another
+-- one way after another
 skips_by_on : (p : Parsed) (scopes : List code_scope.Scope) (name n env mid at : ℕ) → SkipsBy p scopes name n env mid → SkipsTo p scopes name mid at
     → SkipsTo p scopes name env at
 skips_by_on p scopes name zero env mid at h g = subst (λ e. SkipsTo p scopes name e at) (sym h) g

@@ -109,7 +109,7 @@ pub tried_to : (p : Parsed) (x : TreeId) (u : code_value.Value) (says b : Bool) 
 tried_to p x u says b a c between after e adds answer =
     record { adds = adds; answer = subst (λ s. AnswersTo p x u s a c between after) e answer }
 
--- all patterns, where the others are the next one and those behind it
+-- all patterns, where the others are the next one and those after it
 next_pattern : (p : Parsed) {patterns : List TreeId} {arguments : List code_value.Value} {i : ℕ} {x : TreeId} {u : code_value.Value}
     → Next patterns arguments i x u → map (tree_in p) (drop i patterns) ≡ tree_in p x ∷ map (tree_in p) (drop (suc i) patterns)
 next_pattern p {patterns} {i = i} {x = x} n =

@@ -103,7 +103,7 @@ pub says_told : (p : Parsed) (a : Arena) (kept : List Binding) (may : Bool) (x :
 says_told p a kept true x h = tt
 says_told p a kept false x h = h
 
--- more bindings behind
+-- more bindings after
 tells_more : (p : Parsed) (a : Arena) (kept more : List Binding) (o : Outcome) (x : Pair) → Tells p a kept o x → Tells p a (kept ++ more) o x
 tells_more p a kept more outcomes.Never x h = h
 tells_more p a kept more outcomes.Maybe x h = tt

@@ -121,7 +121,7 @@ opened_shows w id ds e E h m =
     let i = env_inside w e E m in
     (id, e, last_place w.scopes s, omega (arith, i), h, env_grows w new g e E m)
 
--- the number that `take` gives is the argument behind those before
+-- the number that `take` gives is the argument after those before
 pub taken_shows : (w : World) (u : code_value.Value) (v : Value) (n i : ℕ) (T : Taken) → ShowsValue w u v → ShowsTaken w n i T
     → ShowsTaken (record w { taken = w.taken ++ record { value = u; before = i } ∷ [] }) (suc n) (length w.taken) (And v T)
 taken_shows w u v n i T h k =

@@ -60,8 +60,8 @@ abbrev pub value_number : Value → Option ℤ
 value_number (Flat d) = number_of d
 value_number v = None
 
--- A name matches every value; an integer matches a diagram with that number; a composition matches a diagram that has no
--- number, is made by the same composition, and has parts that match, the left one first. The bindings are added to those so far.
+-- A name matches every value, and an integer a diagram with that number. A composition matches a diagram without a number that is
+-- made by the same composition and whose parts match, the left one first. The bindings are added to those so far.
 abbrev pub matched : Lexed → Tree → Value → Bindings → Option Bindings
 matched l (tree.Named s n) v bs = Some ((text_of l n, settled v) ∷ bs)
 matched l (tree.Number s n) v bs = if is_number (wrap (pos n)) (value_number v) then Some bs else None
@@ -70,7 +70,7 @@ matched l (tree.Binary s o p q) v bs =
     and_then (value_parts o v) (λ ab. and_then (matched l p (Flat ab.0) bs) (λ cs. matched l q (Flat ab.1) cs))
 matched l p v bs = None
 
--- patterns against as many values
+-- whether patterns match as many values, one after the other; the bindings are added to those so far
 abbrev pub all_matched : Lexed → List Tree → List Value → Bindings → Option Bindings
 all_matched l [] vs bs = Some bs
 all_matched l (p ∷ ps) [] bs = None

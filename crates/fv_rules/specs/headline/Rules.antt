@@ -67,7 +67,7 @@ abbrev pub on_slots : List Name → ℕ → Env → Env
 on_slots [] slot env = env
 on_slots (x ∷ xs) slot env = on_slots xs (suc slot) (Bound x (Flat (Slot slot)) env)
 
--- so many slots from this one on, bound around a body
+-- a body around which slots are bound: this many, from this one on
 abbrev pub bind_all : ℕ → ℕ → Diagram → Eval Diagram
 bind_all slot zero d = give d
 bind_all slot (suc n) d = bind_all (suc slot) n d >>= λ b. put (Bind slot b)
@@ -98,12 +98,12 @@ joined operators.Sequence a b = put (Seq a b)
 joined operators.Split a b = put (Split a b)
 joined operators.Merge a b = put (Merge a b)
 
--- put from the right by a composition
+-- diagrams put together from the right by a composition
 abbrev pub from_right : (Diagram → Diagram → Diagram) → Diagram → List Diagram → Eval Diagram
 from_right compose d [] = give d
 from_right compose d (x ∷ xs) = from_right compose x xs >>= λ r. put (compose d r)
 
--- put from the left by an operation
+-- diagrams put together from the left by an operation
 abbrev pub from_left : Prim → Diagram → List Diagram → Eval Diagram
 from_left p d [] = give d
 from_left p d (x ∷ xs) = operated p d x >>= λ r. from_left p r xs
@@ -128,21 +128,21 @@ name_value l e name env = visit >>= λ u. meant e name (lookup l env name)
 
 -- ---- application
 
--- the arguments, behind those that are done; one with a number is that integer
+-- the values of arguments, after those that are done; one with a number is that integer
 abbrev pub arguments : Evaluator → List Tree → Env → List Value → Eval (List Value)
 arguments e [] env done = give done
 arguments e (a ∷ more) env done = do
   v ← e.value a env
   arguments e more env (done ++ settled v ∷ [])
 
--- each turned into a diagram, behind those that are done
+-- values turned into diagrams, after those that are done
 abbrev pub all_turned : Lexed → Evaluator → List Value → List Diagram → Eval (List Diagram)
 all_turned l e [] done = give done
 all_turned l e (v ∷ more) done = do
   d ← turned l e v
   all_turned l e more (done ++ d ∷ [])
 
--- so many wires
+-- n wires side by side, as a list
 abbrev pub wires : ℕ → List Diagram
 wires n = replicate n (Primitive prim.Wire)
 
@@ -152,13 +152,13 @@ takes_the_right (Primitive prim.Prefix) = false
 takes_the_right (Primitive p) = nat_eq (primitive_inputs p) 2
 takes_the_right d = false
 
--- side by side, and then the function
+-- diagrams side by side, and then the function
 abbrev pub led : Diagram → List Diagram → Diagram → Eval Diagram
 led d ds f = do
   p ← from_right Par d ds
   put (Seq p f)
 
--- A diagram on arguments, the first and more, which have so many outputs.
+-- A diagram on arguments, the first and more, which have k outputs.
 abbrev pub fed_by : ℕ → Diagram → Diagram → List Diagram → Eval Diagram
 fed_by k f d ds =
     if nat_lt (inputs f) k then refuse (TooManyArguments k (inputs f))
@@ -180,7 +180,7 @@ abbrev pub selected : Lexed → Evaluator → ℕ → Env → Option (Tree × Bi
 selected l e start env None = refuse (no_rule l start)
 selected l e start env (Some xb) = e.value xb.0 (bound_in env xb.1)
 
--- A value applied to arguments, by an application that so many tokens begin.
+-- A value applied to arguments. From the application on, a text has `start` tokens left.
 abbrev pub applied : Lexed → Evaluator → ℕ → Value → List Value → Eval Value
 applied l e start v [] = give v
 applied l e start (Flat f) (a ∷ more) = all_turned l e (a ∷ more) [] >>= fed f
@@ -192,7 +192,7 @@ applied l e start (Rules s rs env taken) (a ∷ more) =
 
 -- ---- iteration
 
--- the bodies for i, i + 1, .., behind those that are done
+-- the bodies for i, i + 1, .., after those that are done
 abbrev pub bodies : Evaluator → Name → Tree → Env → ℕ → ℕ → List Diagram → Eval (List Diagram)
 bodies e x body env i zero done = give done
 bodies e x body env i (suc n) done = do
@@ -316,7 +316,7 @@ descend l e = record {
   diagram = λ x env. visit >>= λ u. (rule l e x env >>= turned l e);
 }
 
--- Evaluation in which at most so many visits stand in one another.
+-- Evaluation in which at most this many visits stand in one another.
 unfoldable pub within : ℕ → Lexed → Evaluator
 within zero l = record { value = λ x env. refuse EvalBudget; diagram = λ x env. refuse EvalBudget }
 within (suc depth) l = descend l (within depth l)

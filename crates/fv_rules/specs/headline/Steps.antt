@@ -54,15 +54,15 @@ give x = λ s. Ok (x, s)
 abbrev pub refuse : {A : Type 0} → EvalRefusal → Eval A
 refuse r = λ s. Err r
 
--- refused at a form, which so many tokens begin
+-- refused at a form, from which a text has this many tokens left
 abbrev pub no_number : Lexed → ℕ → EvalRefusal
 no_number l start = NotANumber (place_from l start).line (place_from l start).column
 
--- no rule fits the application that so many tokens begin
+-- no rule fits an application, from which a text has this many tokens left
 abbrev pub no_rule : Lexed → ℕ → EvalRefusal
 no_rule l start = NoRule (place_from l start).line (place_from l start).column
 
--- no diagram begins with so many tokens left
+-- no diagram begins where a text has this many tokens left
 abbrev pub no_diagram : Lexed → ℕ → EvalRefusal
 no_diagram l start = NotADiagram (place_from l start).line (place_from l start).column
 
@@ -75,7 +75,7 @@ spent (suc n) s = Ok (tt, record s { visits = n })
 abbrev pub visit : Eval Unit
 visit = λ s. spent s.visits s
 
--- so many new slots, of which this is the first
+-- The first of n new slots.
 abbrev pub fresh_slots : ℕ → Eval ℕ
 fresh_slots n = λ s. Ok (s.slot, record s { slot = s.slot + n })
 
@@ -116,7 +116,7 @@ put_after None d = sized d
 
 -- ---- tables (Faust manual, rdtable and rwtable; this project's profile)
 
--- side by side, put from the right; a parallel composition always fits
+-- diagrams side by side, put from the right; a parallel composition always fits
 abbrev pub side_by_side : Diagram → List Diagram → Eval Diagram
 side_by_side d [] = give d
 side_by_side d (x ∷ xs) = side_by_side x xs >>= λ r. sized (Par d r)
@@ -127,11 +127,11 @@ table_size (pos zero) = refuse (TableForm cause.Size)
 table_size (pos (suc n)) = give (suc n)
 table_size (negsuc n) = refuse (TableForm cause.Size)
 
--- the table sum grows by so much
+-- the table sum grows by n, unless it is then over the limit
 abbrev pub grown : ℕ → State → Outcome Unit
 grown n s = if nat_le (s.tables + n) TABLE_LIMIT then Ok (tt, record s { tables = s.tables + n }) else Err (TableBudget (s.tables + n))
 
--- the same, as an evaluation
+-- an evaluation by which the table sum grows by n
 abbrev pub grow : ℕ → Eval Unit
 grow n = λ s. grown n s
 
@@ -139,7 +139,7 @@ grow n = λ s. grown n s
 abbrev pub waved : List ℤ → Eval Diagram
 waved values = grow (length values) >>= λ u. give (Wave values)
 
--- The table of a head, behind what it takes. The sum is tried before a number is computed.
+-- The table of a head, put after what it takes. The sum is tried before a number is computed.
 abbrev pub tabled_by : Bool → List Diagram → List Diagram → Eval Diagram
 tabled_by writes (d ∷ ds) (r ∷ rs) = do
   h ← side_by_side d ds
@@ -149,11 +149,11 @@ tabled_by writes (d ∷ ds) (r ∷ rs) = do
   sized (Seq rest (Table (table_numbers n h) writes))
 tabled_by writes _ _ = refuse (TableForm cause.Head)
 
--- a diagram behind a table primitive: it is cut into the table's head and what the table takes
+-- what stands before a table primitive, cut into the table's head and what the table takes
 abbrev pub tabled_of : Bool → List Diagram × List Diagram → Eval Diagram
 tabled_of writes c = if is_head c.0 then tabled_by writes c.0 c.1 else refuse (TableForm cause.Head)
 
--- the same, of a whole diagram
+-- a diagram before a table primitive, as a table after what it takes
 abbrev pub tabled : Bool → Diagram → Eval Diagram
 tabled writes a = tabled_of writes (cut 2 (parts a))
 
@@ -169,7 +169,7 @@ put_as None o d = put_after o d
 put_as (Some x) (Some r) d = refuse r
 put_as (Some x) None d = tabled x.1 x.0
 
--- A diagram is put: its arity is tried first, then its size; behind `rdtable` or `rwtable` it becomes a table.
+-- A diagram is put: its arity is tried first, then its size; after `rdtable` or `rwtable` it becomes a table.
 abbrev pub put : Diagram → Eval Diagram
 put d = put_as (before_table d) (misfit d) d
 
@@ -188,11 +188,11 @@ is_kind VSlider VSlider = true
 is_kind NEntry NEntry = true
 is_kind _ _ = false
 
--- of one kind, with one triple of init, min and max
+-- two controls are of one kind, and have the same init, min and max
 abbrev pub is_alike : ControlInfo → ControlInfo → Bool
 is_alike a b = is_kind a.kind b.kind && (int_eq a.init b.init && (int_eq a.min b.min && int_eq a.max b.max))
 
--- the control with this label, and its number behind so many others
+-- the control with this label, and its number, where the first of the list has the number k
 abbrev pub labelled : ℕ → List ControlInfo → List ℕ → Option (ℕ × ControlInfo)
 labelled k [] label = None
 labelled k (c ∷ cs) label = if bytes_eq c.label label then Some (k, c) else labelled (suc k) cs label
@@ -202,6 +202,6 @@ abbrev pub entered : ControlInfo → State → Option (ℕ × ControlInfo) → O
 entered c s None = Ok (Control (length s.controls), record s { controls = s.controls ++ c ∷ [] })
 entered c s (Some ko) = if is_alike c ko.1 then Ok (Control ko.0, s) else Err (ControlClash c.label)
 
--- its bounds are tried first
+-- a control of a program: its bounds are tried first, and then it is entered by its label
 abbrev pub control : ControlInfo → Eval Diagram
 control c = λ s. if int_le c.min c.init && int_le c.init c.max then entered c s (labelled 0 s.controls c.label) else Err (ControlBounds c.label)

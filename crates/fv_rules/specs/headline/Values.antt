@@ -18,8 +18,8 @@ pub record Rule : Type 0 where
   pub body : Tree
 
 mutual
-  -- A value is a diagram, an abstraction (the parameters left, the body, the environment), or rules (how many tokens there are
-  -- from their first one on, the rules, the environment, the arguments taken so far).
+  -- A value is a diagram, an abstraction or rules. An abstraction has the parameters left, the body and the environment. Rules have
+  -- their place (how many tokens there are from their first one on), the rules, the environment and the arguments taken so far.
   pub data Value : Type 0 where
     Flat : (diagram : Diagram) → Value
     Abstraction : (first : List ℕ) → (others : List (List ℕ)) → (body : Tree) → (env : Env) → Value
