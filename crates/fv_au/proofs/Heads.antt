@@ -27,7 +27,7 @@ field_first p xs h =
     let parts : 24 ≡ p + (24 - p) = omega arith in
     ap (big_number 4) (ap (λ (n : ℕ). drop p (take n xs)) parts ∙ drop-take p (24 - p) xs) ∙ big_from-take 0 4 (24 - p) (drop p xs) (omega arith)
 
--- 24 bytes say what they say with all that stands behind them
+-- 24 bytes say what they say with all that stands after them
 pub head_front : (xs ys : List ℕ) → length xs ≡ 24 → head_of (xs ++ ys) ≡ head_of xs
 head_front xs ys h =
     let all = xs ++ ys in

@@ -1,4 +1,4 @@
--- Bytes that were kept, and those that are read behind them.
+-- Bytes that were kept, and those that are read after them.
 use Rattle.std.proofs.Common.{◌≡◌, ℕ, ◌+◌, ◌-◌, ◌≤◌, ◌<◌, min, List, [], ◌++◌, length, take, drop, refl, sym, ap, ◌∙◌, arith}
 use Rattle.std.proofs.Common.{append_assoc, take_all, length-take, length-take-le}
 use Rattle.std.proofs.lemmas.List.{drop_all, drop_at, take-append-drop}
@@ -22,7 +22,7 @@ past kept front to0 to1 left0 left1 behind n m r few all long room given rest ta
     ∙ ap (λ (zs : List ℕ). take (n + m) (zs ++ drop n (put_mid n (length to0 - n) to0 to1)) ++ left1) (sym same)
     ∙ ap (λ (zs : List ℕ). take (n + m) (front ++ drop n (put_mid n (length to0 - n) to0 to1)) ++ (zs ++ left1)) (sym none)
 
--- a reading of no more than are kept: what is taken beneath is kept behind the others
+-- a reading of no more than are kept: what is taken beneath is kept after the others
 pub within : (kept next to left0 left1 rest more : List ℕ) (n r : ℕ) → take r to ≡ take r kept → rest ≡ drop r kept → more ≡ rest ++ take n next
     → left0 ≡ take n next ++ left1
     → kept ++ left0 ≡ take r to ++ (more ++ left1)

@@ -10,7 +10,7 @@ IsAu bytes = take 4 bytes ≡ codes ".snd"
 
 -- ---- samples
 
--- where the samples of a file with this head lie, if so many bytes of them are there to be read
+-- where the samples of a file with this head lie, if n bytes of them are there to be read
 abbrev pub layout_of : AuHead → ℕ → Layout
 layout_of head size = record { channels = head.channels; bits = head.bits; size = size; place = head.offset }
 
@@ -23,6 +23,6 @@ size_of None = 0
 abbrev pub stated_bytes : AuHead → ℕ
 stated_bytes head = whole_bytes (layout_of head (size_of head.data_bytes))
 
--- the samples of the whole frames in so many bytes
+-- how many samples the whole frames in n bytes have
 abbrev pub whole_samples : AuHead → ℕ → ℕ
 whole_samples head size = size / frame_size head.channels head.bits * head.channels

@@ -52,7 +52,7 @@ IsRestCause (AuFormat place) old new = (place ≡ 8) × IsSaid (data_limit < len
 IsRestCause (AuTruncated place) old new = ⊥
 IsRestCause NoMemory old new = KeepsFaults old new
 
--- Such a reading stopped: some bytes of the input were taken, nothing else changed, and the refusal has its cause.
+-- A reading up to the file's end stopped: some bytes of the input were taken, nothing else changed, and the refusal has its cause.
 pub record RestStops (old new : DeskState) (refusal : AuRefusal) : Type 0 where
   pub some : TakesSome Input old new
   pub cause : IsRestCause refusal old new

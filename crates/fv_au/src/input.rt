@@ -61,7 +61,7 @@ fn read_front<D: Desk>(desk: &mut D, begun: &[u8]) -> Result<AuHead, AuRefusal>
     judge(&front[..start + n])
 }
 
-/// The head of the AU file whose bytes are left to read of the input; its samples are left next.
+/// The head of the AU file whose bytes are left of the input. After the call its samples are left next.
 pub fn read_au_head<D: Desk>(desk: &mut D) -> Result<AuHead, AuRefusal>
     requires begins { IsTrue (D.state desk.old).tells → IsAu ((D.state desk.old).left Input) }
     ensures head { IfOk result (λ head. IsTrue (D.state desk.old).tells → au ((D.state desk.old).left Input) ≡ Ok head) }
@@ -73,8 +73,8 @@ pub fn read_au_head<D: Desk>(desk: &mut D) -> Result<AuHead, AuRefusal>
     read_au_head_behind(desk, &[])
 }
 
-/// The head of the AU file that begins with these bytes, which were taken, and goes on with those that are left to read of the
-/// input; its samples are left next.
+/// The head of the AU file that begins with the bytes `begun`, which were taken already. It goes on with what is left of the input;
+/// after the call its samples are left next.
 pub fn read_au_head_behind<D: Desk>(desk: &mut D, begun: &[u8]) -> Result<AuHead, AuRefusal>
     requires few { length begun.now ≤ 24 }
     requires begins { IsTrue (D.state desk.old).tells → IsAu (begun.now ++ (D.state desk.old).left Input) }

@@ -19,7 +19,7 @@ use fv_outside::{Desk, Role, write_all, write_pieces};
 use fv_pcm::{Coding, encode};
 use fv_wav::WriteRefusal;
 
-/// Writes the 24 bytes before so many bytes of samples.
+/// Writes the 24 bytes that stand before `size` bytes of samples.
 pub fn write_au_head<D: Desk>(
     desk: &mut D,
     channels: u32,

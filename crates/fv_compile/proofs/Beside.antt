@@ -45,7 +45,7 @@ part_behind : (a b w : ℕ) (X : List Frame) → part_frames b w (map (drop a) X
 part_behind a b w [] = refl
 part_behind a b w (x ∷ X) = ap₂ (λ y Y. y ∷ Y) (ap (take w) (drop-drop b a x)) (part_behind a b w X)
 
--- ---- the first part, and those behind it
+-- ---- the first part, and those after it
 
 module _ (n : ℕ) (p : Part) (ps : List Part) (c e : ℕ → Stream) (X : List Frame) (well : AreWellFormed (p ∷ ps))
     (wide : All (Has (inputs_of (p ∷ ps))) X) where

@@ -1,4 +1,4 @@
--- A graph that is put behind others: its groups, which are opened before and closed behind it.
+-- A graph that is put after others: its groups, which are opened before and closed after it.
 use Rattle.std.proofs.Common.{◌≡◌, inl, inr, ℕ, zero, suc, ◌+◌, ◌-◌, ◌<◌, ◌≤◌, ◌^◌, List, [], ◌∷◌, ◌++◌, length}
 use Rattle.std.proofs.Common.{map, get_or, All, refl, sym, ap, ap₂, ◌∙◌, subst, arith, pos, true, false, ℤ}
 use Rattle.std.proofs.lemmas.Bool.{cases_lt}
@@ -83,11 +83,11 @@ closed_marked d first [] h = h
 closed_marked d first (ms ∷ lists) h = closed_marked (with_members d first ms) (suc first) lists
     (length-set d.closed first true ∙ h ∙ sym (length-set d.groups first ms))
 
--- a draft with so many groups and these tables more
+-- a draft with N groups and these tables more
 abbrev pub begun_with : Draft → (groups : ℕ) → List (List ℤ) → Draft
 begun_with d n tables = with_tables (with_groups d n) tables
 
--- the groups that are opened wait, and their numbers are those behind the groups before
+-- the groups that are opened wait, and their numbers are those after the groups before
 pub opened_wait : (d new : Draft) (first n : ℕ) (ts : List (List ℤ)) → IsValid d → first ≡ length d.groups → new ≡ begun_with d n ts → (k : ℕ) → k < n
     → IsPending new (first + k)
 opened_wait d new first n ts h f e k l =
@@ -102,7 +102,7 @@ members_tables : (d : Draft) (first : ℕ) (lists : List (List ℕ)) → (with_a
 members_tables d first [] = refl
 members_tables d first (ms ∷ lists) = members_tables (with_members d first ms) (suc first) lists
 
--- the tables of a graph behind others
+-- the tables of a graph after others
 pub begun_tables : (d : Draft) (n : ℕ) (ts : List (List ℤ)) → (begun_with d n ts).tables ≡ d.tables ++ ts
 begun_tables d n ts = ap (λ us. us ++ ts) (groups_tables d n)
 

@@ -1,4 +1,4 @@
--- Graphs that are put one behind another.
+-- Graphs that are put one after another.
 use Rattle.std.proofs.Common.{◌≡◌, inl, inr, ℕ, ◌+◌, ◌-◌, ◌<◌, ◌≤◌, List, [], ◌∷◌, ◌++◌, ℤ, length, take, get_or, All, refl, sym, ap, ◌∙◌, subst, arith, pos}
 use Rattle.std.specs.Prelude.{Result, Ok, Err, IfOk, OnOk}
 use Rattle.std.proofs.lemmas.Bool.{cases_lt}
@@ -26,7 +26,7 @@ use Rattle.fv_compile.proofs.lemmas.Values.{keeps}
 flat_map_snoc : {A B : Type 0} (f : A → List B) (xs : List A) (x : A) → flat_map f (xs ++ x ∷ []) ≡ flat_map f xs ++ f x
 flat_map_snoc f xs x = flat_map-append f xs (x ∷ []) ∙ ap (λ ys. flat_map f xs ++ ys) (append-nil (f x))
 
--- the numbers behind those of the jobs before job k
+-- the numbers after those of the jobs before job k
 abbrev pub behind : List Job → (k groups tables : ℕ) → Offsets
 behind jobs k groups tables = record { inputs = inputs_of (take k jobs); controls = controls_of (take k jobs); groups = groups; tables = tables }
 
@@ -93,7 +93,7 @@ stands_on jobs k job d new outs more g inputs controls h a =
           get_or_append_left outs more 0 (outputs_of (take k jobs) + j) (omega (arith, r, l)) ∙ h.outputs j l;
     }
 
--- and the next one stands behind them
+-- and the next one stands after them
 stands_next : (jobs : List Job) (n : ℕ) (job : Job) (d new : Draft) (outs more : List ℕ) → length outs ≡ outputs_of (take n jobs)
     → IsAppended job.graph (inputs_of (take n jobs)) (controls_of (take n jobs)) d new more → Stands jobs n job new (outs ++ more)
 stands_next jobs n job d new outs more wide a =
@@ -197,7 +197,7 @@ control_named p o (Member own j) k e = absurd cc
 control_named p o (Read table r) k e = absurd cc
 control_named p o (Write table w y r) k e = absurd cc
 
--- the numbers that a signal names, behind others
+-- the numbers that a signal names, after others
 names_behind : (p : ℕ → ℕ) (o : Offsets) (m : Signal) (inputs controls more most : ℕ) → NamesBelow inputs controls m → o.inputs + inputs ≤ more
     → o.controls + controls ≤ most → NamesBelow more most (renumbered p o m)
 names_behind p o (Input k) inputs controls more most b i c = omega (arith, b, i)

@@ -35,7 +35,7 @@ has_shifted n (Split a b) j h = elim h [ inl m ↦ inl (has_shifted n a j m) | i
 has_shifted n (Merge a b) j h = elim h [ inl m ↦ inl (has_shifted n a j m) | inr m ↦ inr (has_shifted n b j m) ]
 has_shifted n (Rec a b) j h = elim h [ inl m ↦ inl (has_shifted n a j m) | inr m ↦ inr (has_shifted n b j m) ]
 
--- a part's control, behind those of the parts before it
+-- a part's control, after those of the parts before it
 has_part : (ps : List Part) (n k : ℕ) (d : Part) (j : ℕ) → k < length ps → HasControl (let p = get_or ps k d in p.diagram) j
     → HasControl (side_by_side n ps) ((n + controls_of (take k ps)) + j)
 has_part [] n k d j l h = absurd (omega (arith, l))

@@ -18,7 +18,7 @@ NamesBelow inputs controls (Member group k) = Unit {0}
 NamesBelow inputs controls (Read table r) = Unit {0}
 NamesBelow inputs controls (Write table w x r) = Unit {0}
 
--- so it is with each signal
+-- each signal of the graph names inputs and controls below these numbers
 abbrev pub ReadsWithin : (inputs controls : ℕ) → Graph → Type 0
 ReadsWithin inputs controls g = (s : ℕ) (d : Signal) → s < length g.signals → NamesBelow inputs controls (slice_index_or g.signals s d)
 

@@ -37,7 +37,8 @@ pub record HasDelay (jobs : List Job) (max : ℕ) : Type 0 where
   pub by : ℕ
   pub stands : (d : Job) → StandsAt (let job = slice_index_or jobs number d in job.graph) s (Delay x by max)
 
--- some job's graph names this by such a signal, which is the input or the control with this number behind those of the jobs before
+-- some job's graph names this number by such a signal: the number of an input or a control, where those of the jobs before it come
+-- first
 pub record IsNamed (count : List Job → ℕ) (such : ℕ → Signal) (jobs : List Job) (n : ℕ) : Type 0 where
   pub number : ℕ
   pub within : number < length jobs
@@ -54,6 +55,6 @@ pub record IsJoined (jobs : List Job) (f : Graph) : Type 0 where
   pub tables : f.tables ≡ flat_map (λ (j : Job). j.graph.tables) jobs
   pub delays : (s x by max : ℕ) → StandsAt f s (Delay x by max) → HasDelay jobs max
   pub reads : ReadsWithin (inputs_of jobs) (controls_of jobs) f
-  -- and names no input and no control that none of their graphs names
+  -- the graph names no input and no control that none of their graphs names
   pub inputs : (s i : ℕ) → StandsAt f s (Input i) → IsNamed inputs_of Input jobs i
   pub controls : (s k : ℕ) → StandsAt f s (Control k) → IsNamed controls_of Control jobs k

@@ -15,7 +15,7 @@ pub record IsOfPart (job : Job) (p : Part) : Type 0 where
   pub width : length job.graph.outputs ≡ outputs p.diagram
   pub propagates : Propagates p.diagram p.spans job.graph
 
--- so it is with each job and the part of its number
+-- each job's graph is that of the part with the job's number
 pub record AreOfParts (jobs : List Job) (ps : List Part) : Type 0 where
   pub long : length jobs ≡ length ps
   pub well : AreWellFormed ps

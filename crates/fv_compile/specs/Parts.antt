@@ -8,7 +8,7 @@ use Rattle.fv_diagram.specs.headline.Streams.{Frame, Stream, column, run}
 use Rattle.fv_compile.specs.Joined.{part_controls}
 use Rattle.fv_compile.specs.headline.Parts.{shifted, Part, side_by_side, part_frames, inputs_of, outputs_of}
 
--- it answers what the diagram answers on the controls behind the first n
+-- it answers what the diagram answers on the controls after the first n
 abbrev pub ShiftedAnswers : Diagram → Type 0
 ShiftedAnswers d = (n : ℕ) (c e : ℕ → Stream) (X : List Frame) → run (shifted n d) c e X ≡ run d (part_controls n c) e X
 
@@ -32,7 +32,7 @@ AreClosed ps = (k : ℕ) (d : Part) → k < length ps → HasNoFreeSlot (let p =
 abbrev pub HaveControls : List Part → Type 0
 HaveControls ps = (k : ℕ) (d : Part) → k < length ps → (let p = slice_index_or ps k d in control_bound p.diagram ≤ length p.spans)
 
--- The diagram has the inputs and outputs of all parts, and names no control behind theirs where n stand before them. It is well
+-- The diagram has the inputs and outputs of all parts. With n controls before theirs, it names no control after theirs. It is well
 -- formed where each part is, and has no free slot where none has.
 pub record IsWhole (n : ℕ) (ps : List Part) (d : Diagram) : Type 0 where
   pub inputs : inputs d ≡ inputs_of ps
@@ -41,7 +41,7 @@ pub record IsWhole (n : ℕ) (ps : List Part) (d : Diagram) : Type 0 where
   pub well : AreWellFormed ps → IsWellFormed d
   pub closed : AreClosed ps → HasNoFreeSlot d
 
--- so it is with parts side by side
+-- Parts side by side are whole: they have what all parts have.
 abbrev pub PartsAreWhole : Type 0
 PartsAreWhole = (n : ℕ) (ps : List Part) → IsWhole n ps (side_by_side n ps)
 
@@ -78,8 +78,8 @@ own_controls a = part_controls (controls_of (take a.number a.parts)) a.controls
 abbrev pub own_output : Answered → (e : ℕ → Stream) → ℕ → Stream
 own_output a e j = column (run (side_by_side 0 a.parts) a.controls e a.frames) (outputs_of (take a.number a.parts) + j)
 
--- Two that agree on the part's diagram and columns, and on its controls at the times of the frames, agree on its outputs, whatever
--- the other parts, columns and controls are.
+-- Two runs of parts agree on a part's outputs where they agree on its diagram and columns, and on its controls at the times of the
+-- frames. The other parts, columns and controls may be any.
 abbrev pub PartsAnswerAlike : Type 0
 PartsAnswerAlike =
     (a b : Answered) (d : Part) (e : ℕ → Stream) → own a d ≡ own b d → own_frames a d ≡ own_frames b d →

@@ -1,4 +1,4 @@
-// A graph that is copied into a builder, behind others.
+// A graph that is copied into a builder, after others.
 
 ghost use Rattle.std.specs.Prelude.{◌≡◌, ◌+◌, ◌<◌, ◌^◌, length, map, All, IfOk, ℕ, slice_index_or};
 ghost use Rattle.fv_analysis.specs.headline.Stands.{node};
@@ -23,7 +23,7 @@ pub(crate) struct Offsets {
     pub(crate) tables: u64,
 }
 
-/// Puts the copy of a job's graph behind what is there. Its outputs' images.
+/// Puts a copy of a job's graph after what is there. Returns the images of its outputs.
 pub(crate) fn append(
     alloc: Global,
     builder: &mut Builder,
@@ -99,7 +99,7 @@ fn image(
     builder.node(renumbered(signal, images, offsets))
 }
 
-// A signal over the images of its operands, with its numbers behind those that stand before.
+// A signal over the images of its operands, with its numbers after those that stand before.
 fn renumbered(signal: Signal, images: &[SignalId], offsets: Offsets) -> Signal
     requires operands { OperandsThere (length images.now) signal }
     requires fits { NumbersFit offsets signal }

@@ -37,7 +37,7 @@ pub fn can_be_joined(jobs: &[Job]) -> bool
     true
 }
 
-// The graph names only so many inputs and controls.
+// Whether the graph names only the first `inputs` inputs and the first `controls` controls.
 fn reads_within(graph: &Graph, inputs: u32, controls: u32) -> bool
     ensures { IsTrue result ↔ ReadsWithin inputs controls graph.now }
 {

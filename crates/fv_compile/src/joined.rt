@@ -10,7 +10,7 @@ use fv_share::Builder;
 use fv_signal::Graph;
 use std::alloc::{AllocError, Global};
 
-/// The graphs of all jobs side by side: the inputs, controls and outputs of each behind those of the jobs before it.
+/// The graphs of all jobs side by side: the inputs, controls and outputs of each after those of the jobs before it.
 pub fn join(alloc: Global, jobs: &[Job]) -> Result<Graph, AllocError>
     requires { CanBeJoined jobs.now }
     ensures { IfOk result (IsJoined jobs.now) }

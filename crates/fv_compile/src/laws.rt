@@ -5,7 +5,7 @@ ghost use Rattle.fv_diagram.specs.headline.Diagram.{Diagram};
 ghost use Rattle.fv_compile.specs.Parts.{ShiftedAnswers, PartsAreWhole, PartsAnswer, PartsAnswerAlike};
 ghost use Rattle.fv_compile.specs.OfParts.{JoinedPropagates, JoinedAreWide, JoinedNames};
 
-/// A diagram whose controls are numbered behind others answers what it does on its own controls.
+/// A diagram whose controls are numbered after others answers what it does on its own controls.
 pub fn shifted_answers()
     ensures { (d : Diagram) → ShiftedAnswers d }
 {}
@@ -30,7 +30,7 @@ pub fn joined_propagates()
     ensures { (f : Graph) → JoinedPropagates f }
 {}
 
-/// And they have the outputs of the diagrams side by side.
+/// All joined graphs have as many outputs as the diagrams side by side.
 pub fn joined_are_wide()
     ensures { (f : Graph) → JoinedAreWide f }
 {}

@@ -45,7 +45,7 @@ streams_said p q = record {
   written = λ t r n. q.others (told_before p.goes_on t) r n ∙ p.written t r n;
 }
 
--- the bytes of more samples stand behind those of the first
+-- the bytes of more samples stand after those of the first
 front_more : (t : Files) (s more : List ℤ) → front t (s ++ more) ≡ front t s ++ flat_map (sample_bytes t.head.coding t.head.bits) more
 front_more t s more =
     let head = head_of t.head in

@@ -73,7 +73,8 @@ pub record IsTape (t : FileTape) : Type 0 where
 abbrev pub front : Files → (said : List ℤ) → List ℕ
 front f s = head_of f.head ++ flat_map (sample_bytes f.head.coding f.head.bits) s
 
--- From start to now the output of this name was asked for, and beside it nothing changed but the bytes left of the input and counts.
+-- From start to now, writing of the output of this name was asked for. Beside it nothing changed but the bytes left of the input,
+-- and counts.
 pub record Streams (name : List ℕ) (start now : DeskState) : Type 0 where
   pub goes_on : GoesOn start now
   pub requests : now.requests ≡ start.requests ++ to_write Output name ∷ []
@@ -87,13 +88,13 @@ pub record AreTaken (c : Coding) (bits : ℕ) (h : List ℤ) (before after : Lis
   pub there : length h * (bits / 8) ≤ length before
   pub rest : after ≡ drop (length h * (bits / 8)) before
 
--- those of the input were, if there is one: from the bytes that were left of it, or from those that were read before
+-- these samples of the input were heard, if there is one: from the bytes that were left of it, or from those that were read before
 abbrev pub AreHeard : Option InputSamples → (held : Option (List ℕ)) → List ℤ → (before after : List ℕ) → Type 0
 AreHeard None held h before after = (h ≡ []) × (after ≡ before)
 AreHeard (Some i) None h before after = AreTaken i.coding i.bits h before after
 AreHeard (Some i) (Some bytes) h before after = AreTaken i.coding i.bits h bytes (drop (length h * (i.bits / 8)) bytes) × (after ≡ before)
 
--- So much was heard and said, and no fault counted.
+-- These samples were heard and said, and no fault was counted.
 pub record Streamed (f : Files) (done : ℕ) (start now : DeskState) (h s : List ℤ) : Type 0 where
   pub streams : Streams f.output start now
   pub begun : HasBegun start now
@@ -102,7 +103,8 @@ pub record Streamed (f : Files) (done : ℕ) (start now : DeskState) (h s : List
   pub heard : IsTrue start.tells → AreHeard f.input f.held h (start.left Input) (now.left Input)
   pub said : IsTrue start.tells → now.written Output ≡ front f s
 
--- A fault of the output was counted and of no other role, and it was not sure that no call fails and there is room for these bytes.
+-- A fault of the output was counted, and none of another role. Before that, a call of it was to fail, or there was no room for
+-- these bytes.
 pub record CannotSay (bytes : List ℕ) (start now : DeskState) : Type 0 where
   pub fault : HasFault Output start now
   pub others : KeepsFaultsBut Output start now
@@ -119,14 +121,14 @@ pub record CannotBegin (f : Files) (start now : DeskState) : Type 0 where
 abbrev pub InputFails : (start now : DeskState) → Stop → Type 0
 InputFails start now e = (e ≡ stop.Read) × IsFaultOfInput start now × KeepsFaultsBut Input start now
 
--- It ends before so many frames behind h, where it is known to; all of it was taken, and no fault was counted.
+-- The input ends before this many frames after h, where it is known to. All of it was taken, and no fault was counted.
 abbrev pub InputEnds : InputSamples → (start now : DeskState) → (h : List ℤ) (frames : ℕ) → Stop → Type 0
 InputEnds i start now h frames e =
     (end : ℕ) × (e ≡ stop.End end) × KeepsFaults start now
     × (IsTrue start.tells → (length (start.left Input) < length h * (i.bits / 8) + frames * frame_size i.channels i.bits)
     × (now.left Input ≡ []) × (end ≡ i.place + length (start.left Input)))
 
--- These frames of an input that is left to read could not be heard behind h.
+-- These frames of an input that is left to read could not be heard after h.
 pub record CannotHear (f : Files) (i : InputSamples) (start now : DeskState) (h s : List ℤ) (frames : ℕ) (e : Stop) : Type 0 where
   pub streams : Streams f.output start now
   pub begun : HasBegun start now
@@ -134,7 +136,7 @@ pub record CannotHear (f : Files) (i : InputSamples) (start now : DeskState) (h 
   pub heard : IsTrue start.tells → AreTaken i.coding i.bits h (start.left Input) (drop (length h * (i.bits / 8)) (start.left Input))
   pub cause : InputFails start now e ⊎ InputEnds i start now h frames e
 
--- These samples could not be said behind s: a part of them was, from their front.
+-- These samples could not be said after s: a part of them was, from their front.
 pub record CannotGoOn (f : Files) (start now : DeskState) (h s more : List ℤ) : Type 0 where
   pub streams : Streams f.output start now
   pub begun : HasBegun start now

@@ -15,7 +15,7 @@ use fv_pcm::Coding;
 pub enum Stop {
     /// The input cannot be read.
     Read,
-    /// The input ends within the frames that are stated: it has so many bytes.
+    /// The input ends within the frames that are stated. The file has `place` bytes.
     End { place: u64 },
     /// The output cannot be written.
     Write,
@@ -24,6 +24,7 @@ pub enum Stop {
 /// What the head of an output says.
 #[derive(Clone, Copy)]
 pub struct OutputHead {
+    /// How samples are stored: as in WAV or in AU files.
     pub coding: Coding,
     /// How many samples a frame has.
     pub channels: u32,
@@ -35,22 +36,24 @@ pub struct OutputHead {
     pub size: u32,
 }
 
-/// The samples of an input, if there is one, and an output.
+/// An input, if there is one, and an output, as a tape.
 #[derive(Drop)]
 pub struct FileTape<'a> {
     /// The output's name.
     pub output: &'a str,
+    /// What the output's head says.
     pub head: OutputHead,
+    /// Where the samples of the input lie in its file, if there is one.
     pub input: Option<InputSamples>,
     /// The bytes of the input's samples, where they were read before.
     pub held: Option<Vec<u8>>,
-    /// The frames that were heard.
+    /// How many frames were heard so far.
     pub done: u32,
-    /// Those that there are to hear.
+    /// How many frames there are to hear in all.
     pub stated: u32,
-    /// The most frames at once.
+    /// The most frames that are heard or said at once.
     pub most: u32,
-    /// As many bytes as these take.
+    /// A buffer of at least as many bytes as the most frames take, both of the input and of the output.
     pub bytes: Vec<u8>,
 }
 

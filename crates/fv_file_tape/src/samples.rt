@@ -23,6 +23,7 @@ use fv_wav::{WriteRefusal, write_frames, write_head};
 /// Where the samples of an input lie.
 #[derive(Clone, Copy)]
 pub struct InputSamples {
+    /// How samples are stored: as in WAV or in AU files.
     pub coding: Coding,
     /// How many samples a frame has.
     pub channels: u32,
@@ -43,7 +44,7 @@ pub(crate) fn frame_size(input: &InputSamples) -> u32
     input.channels * (input.bits / 8)
 }
 
-/// Fills `to` with the samples behind so many frames of these bytes.
+/// Fills `to` with the samples that follow the first `frames` frames of these bytes.
 pub(crate) fn decode_behind(input: &InputSamples, frames: u32, bytes: &[u8], to: &mut [i32])
     requires input { IsInput input.now }
     requires there { frames * frame_size input.now.channels input.now.bits + length to.old * (input.now.bits / 8) ≤ length bytes.now }
@@ -54,8 +55,8 @@ pub(crate) fn decode_behind(input: &InputSamples, frames: u32, bytes: &[u8], to:
     decode(input.coding, input.bits, &bytes[start..end], to);
 }
 
-/// Fills `to` with the next samples of the input, through `bytes`, which has just their length. A place is how many bytes of the
-/// file were taken.
+/// Fills `to` with the next samples of the input, through `bytes`, which has just their length. `place` is how many bytes of the
+/// file were taken before.
 pub(crate) fn read_samples<D: Desk>(
     desk: &mut D,
     coding: Coding,

@@ -44,7 +44,7 @@ two : samples_in coding.Au 16 2 (0 ∷ 1 ∷ 255 ∷ 254 ∷ []) ≡ pos 1 ∷ n
 unfolding sample_at
 two = refl
 
--- behind one byte, two frames of two samples of 8 bits, where five bytes are stated; and where only three are there
+-- after one byte, two frames of two samples of 8 bits, where five bytes are stated; and where only three are there
 abbrev pair : Layout
 pair = record { channels = 2; bits = 8; size = 5; place = 1 }
 

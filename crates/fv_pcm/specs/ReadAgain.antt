@@ -7,12 +7,12 @@ use Rattle.fv_pcm.specs.headline.Coded.{sample_of, sample_bytes}
 use Rattle.fv_pcm.specs.headline.Sizes.{Layout, frame_size}
 use Rattle.fv_pcm.specs.Sizes.{frames_in}
 
--- A sample that is written is read again, whatever stands behind it.
+-- A sample that is written is read again, whatever stands after it.
 abbrev pub SampleIsReadAgain : Type 0
 SampleIsReadAgain =
     (c : Coding) (bits : ℕ) (x : ℤ) (behind : List ℕ) → is_sample_width bits ≡ true → sample_of c bits (sample_bytes c bits x ++ behind) ≡ clamped bits x
 
--- so many frames of samples stand behind these bytes, as it is stated
+-- frames of samples stand after the bytes before them, as the layout states
 pub record AreStated (l : Layout) (frames : ℕ) (samples : List ℤ) (before : List ℕ) : Type 0 where
   pub some : 1 ≤ l.channels
   pub wide : is_sample_width l.bits ≡ true

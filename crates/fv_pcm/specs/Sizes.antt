@@ -19,7 +19,7 @@ frames_in c l bytes = table (frames_present l bytes) (λ t. table l.channels (λ
 abbrev pub rows : (channels n : ℕ) → List ℤ → List Frame
 rows channels n xs = table n (λ t. table channels (λ i. argument xs (t * channels + i)))
 
--- The samples behind t frames are the next frames that are present.
+-- The samples after t frames are the next frames that are present.
 abbrev pub SamplesFollow : Type 0
 SamplesFollow =
     (c : Coding) (l : Layout) (bytes : List ℕ) (t n : ℕ) → 1 ≤ l.channels → is_sample_width l.bits ≡ true

@@ -22,7 +22,7 @@ pub fn decode(coding: Coding, bits: u32, bytes: &[u8], to: &mut [i32])
     }
 }
 
-/// So many samples, which are in the bytes.
+/// The first `count` samples of the bytes.
 pub fn decoded(
     alloc: Global,
     coding: Coding,

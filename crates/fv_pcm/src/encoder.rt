@@ -11,7 +11,7 @@ use byteorder::{BigEndian, ByteOrder, LittleEndian};
 use fv_base::limits::DATA_LIMIT;
 use fv_num::clamp;
 
-/// The bytes of so many frames, unless they are more than a head can state.
+/// How many bytes the samples of `frames` frames have; `None` where they are more than a head can state.
 pub fn data_length(channels: u32, bits: u32, frames: u32) -> Option<u32>
     requires { is_sample_width bits ≡ true }
     ensures { result ≡ data_length_of channels bits frames }
@@ -37,7 +37,8 @@ pub fn encode(coding: Coding, bits: u32, samples: &[i32], bytes: &mut [u8])
     }
 }
 
-// The same, in the body of whoever knows the width.
+// Puts the samples' bytes, each clamped to the width, into the front of `bytes`. It is inlined, so that each width has a loop of
+// its own.
 #[inline(always)]
 fn encode_all(coding: Coding, bits: u32, samples: &[i32], bytes: &mut [u8])
     requires bits { is_sample_width bits ≡ true }

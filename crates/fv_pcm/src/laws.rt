@@ -13,7 +13,7 @@ pub fn samples_are_read_again()
     ensures { SamplesAreReadAgain }
 {}
 
-/// The samples behind some frames are the next frames that are present.
+/// The samples after some frames are the next frames that are present.
 pub fn samples_follow()
     ensures { SamplesFollow }
 {}

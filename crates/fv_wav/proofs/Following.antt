@@ -1,4 +1,4 @@
--- The samples behind some frames are the next frames.
+-- The samples after some frames are the next frames.
 use Rattle.fv_pcm.specs.declared.coding.Coding.TheVariants as coding
 use Rattle.fv_pcm.proofs.lemmas.Following as samples
 use Rattle.fv_wav.specs.Samples.{Follow, layout_of}

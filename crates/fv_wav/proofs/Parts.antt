@@ -22,7 +22,7 @@ pub tag_short : (size : ℕ) (r : Rest) → size < 16 → tag_at size r ≡ Err 
 unfolding tag_at
 tag_short size r h = rw (lt-leb 16 size h) refl
 
--- ---- the fields behind the rate, one exit after another
+-- ---- the fields after the rate, one exit after another
 
 pub shape_pass : (channels : ℕ) (r : Rest) (e : WaveRefusal) → past 4 r ≡ Err e → shape_at channels r ≡ Err e
 unfolding shape_at
@@ -55,7 +55,7 @@ pub shape_is : (channels align bits : ℕ) (r r1 r2 r3 r4 : Rest) → past 4 r �
 unfolding shape_at
 shape_is channels align bits r r1 r2 r3 r4 a b c w s e = rw (a, b, c, w, s, e) refl
 
--- ---- the fields behind the tag
+-- ---- the fields after the tag
 
 pub sound_rate : (channels : ℕ) (r r1 : Rest) (e : WaveRefusal) → number 2 r ≡ Ok (channels, r1) → is_channels channels ≡ true → number 4 r1 ≡ Err e
     → sound_at r ≡ Err e

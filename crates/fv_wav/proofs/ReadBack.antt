@@ -49,7 +49,7 @@ record IsStated (channels rate bits : ℕ) : Type 0 where
   rated : rate < 2 ^ 32
   wide : is_sample_width bits ≡ true
 
--- the bytes of a format behind its tag, and those behind them
+-- the bytes of a format after its tag, and those after them
 abbrev sound_bytes : (channels rate bits : ℕ) → List ℕ → List ℕ
 sound_bytes channels rate bits ys =
     little_bytes 2 channels ++ (little_bytes 4 rate ++ (little_bytes 4 ((rate * frame_size channels bits) % 2 ^ 32)

@@ -32,7 +32,7 @@ present head bytes = bytes_present (layout_of head) bytes
 abbrev pub frames_in : Head → List ℕ → List Frame
 frames_in head bytes = coded_frames coding.Wave (layout_of head) bytes
 
--- The samples behind t frames are the next frames that are present.
+-- The samples after t frames are the next frames that are present.
 abbrev pub Follow : Type 0
 Follow =
     (head : Head) (bytes : List ℕ) (t n : ℕ) → 1 ≤ head.channels → is_sample_width head.bits ≡ true

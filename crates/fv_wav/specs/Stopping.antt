@@ -16,7 +16,7 @@ use Rattle.fv_wav.specs.declared.chunks.NextChunk.TheVariants as next_chunk
 use Rattle.fv_wav.specs.declared.refusal.WaveRefusal.{WaveRefusal}
 use Rattle.fv_wav.specs.declared.refusal.WaveRefusal.TheVariants.{ReadFault, NotWave, WaveTruncated, WaveFormat, WaveChunks}
 
--- So many bytes of the input were taken, and where the desk tells its bytes, they say this.
+-- The next n bytes of the input were taken, and where the desk tells its bytes, they say this.
 pub record Passes (n : ℕ) (says : Type 0) (old new : DeskState) : Type 0 where
   pub bytes : List ℕ
   pub long : length bytes ≡ n
@@ -64,11 +64,11 @@ pub record IsHead (head : Head) : Type 0 where
 abbrev pub walk_from : Walk → List ℕ → Result Head WaveRefusal
 walk_from w bytes = walk w.room w.seen (rest_of w.place bytes)
 
--- the same from behind the name of a chunk of this kind on
+-- the reading of the chunks from the place after the name of a chunk of this kind on
 abbrev pub chunk_from : Walk → Kind → List ℕ → Result Head WaveRefusal
 chunk_from w k bytes = chunk_at w.room k w.seen w.place (rest_of (w.place + 4) bytes)
 
--- the reading behind a chunk: its head, or that of the chunks from there on
+-- the reading after a chunk: its head, or that of the chunks from there on
 abbrev pub continued : NextChunk → List ℕ → Result Head WaveRefusal
 continued (next_chunk.Data head) bytes = Ok head
 continued (next_chunk.Chunk next) bytes = walk_from next bytes

@@ -47,7 +47,7 @@ fn read_tag<D: Desk>(desk: &mut D, place: u64, size: u32) -> Result<u16, WaveRef
     Ok(tag)
 }
 
-// The fields behind the tag.
+// The fields after the tag.
 fn read_sound<D: Desk>(desk: &mut D, place: u64) -> Result<Format, WaveRefusal>
     requires { place < 2 ^ 62 }
     ensures ok { IfOk result (λ format. Passes 14
@@ -69,7 +69,7 @@ fn read_sound<D: Desk>(desk: &mut D, place: u64) -> Result<Format, WaveRefusal>
     })
 }
 
-// The fields behind the rate: the bits of a sample.
+// The fields after the rate: the bits of a sample.
 fn read_shape<D: Desk>(desk: &mut D, place: u64, channels: u16) -> Result<u16, WaveRefusal>
     requires place { place < 2 ^ 63 }
     requires channels { channels ≤ MOST_CHANNELS }
@@ -92,14 +92,14 @@ fn read_shape<D: Desk>(desk: &mut D, place: u64, channels: u16) -> Result<u16, W
     Ok(bits)
 }
 
-// Whether a frame may have so many samples.
+// Whether a frame may have `channels` samples.
 fn is_channel_count(channels: u16) -> bool
     ensures { result ≡ is_channels channels }
 {
     1 <= channels && u32::from(channels) <= MOST_CHANNELS
 }
 
-// Whether samples may have so many bits.
+// Whether samples may have `bits` bits.
 fn is_width(bits: u16) -> bool
     ensures { result ≡ is_sample_width bits }
 {
@@ -150,7 +150,7 @@ fn read_fields<D: Desk>(desk: &mut D, place: u64, size: u32) -> Result<(Format, 
     Ok((format, 40))
 }
 
-/// A `fmt ` chunk, behind its name: the format, and the place behind the chunk.
+/// A `fmt ` chunk, after its name: the format, and the place after the chunk.
 pub fn read_format<D: Desk>(desk: &mut D, place: u64) -> Result<(Format, u64), WaveRefusal>
     requires { place < 2 ^ 60 }
     ensures ok { IfOk result (λ x. (n : ℕ) × (n ≤ 2 ^ 32 + 4) × (x.1 ≡ place + n) × Passes n

@@ -19,7 +19,7 @@ pub fn written_is_read()
     ensures { IsReadBack }
 {}
 
-/// The samples behind some frames are the next frames that are present.
+/// The samples after some frames are the next frames that are present.
 pub fn samples_follow()
     ensures { Follow }
 {}

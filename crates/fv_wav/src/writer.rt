@@ -17,7 +17,7 @@ use byteorder::{ByteOrder, LittleEndian};
 use fv_outside::{Desk, Role, write_all, write_pieces};
 use fv_pcm::{Coding, encode};
 
-/// Writes the 44 bytes before so many bytes of samples.
+/// Writes the 44 bytes that stand before `size` bytes of samples.
 pub fn write_head<D: Desk>(
     desk: &mut D,
     channels: u32,

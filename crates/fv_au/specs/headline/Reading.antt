@@ -19,7 +19,7 @@ is_encoding e = nat_le 2 e && nat_le e 5
 abbrev pub bits_of : (encoding : ℕ) → ℕ
 bits_of e = (e - 1) * 8
 
--- the encoding of samples of so many bits
+-- the encoding of samples of this many bits
 abbrev pub encoding_of : (bits : ℕ) → ℕ
 encoding_of bits = bits / 8 + 1
 
@@ -54,7 +54,7 @@ head_of bytes =
     else Err (AuFormat 20)))
     else Err (AuFormat 12))))
 
--- the whole head is there, up to the samples
+-- the head where all of its bytes are there, up to the samples; else the file ends too early
 abbrev pub behind : List ℕ → AuHead → Result AuHead AuRefusal
 behind bytes head = if nat_lt (length bytes) head.offset then Err (AuTruncated (length bytes)) else Ok head
 
@@ -69,7 +69,7 @@ au bytes = au_in bytes (head_of bytes)
 
 -- ---- samples
 
--- the 24 bytes before so many bytes of samples
+-- the 24 bytes that stand before size bytes of samples
 abbrev pub head_bytes : (channels rate bits size : ℕ) → List ℕ
 head_bytes channels rate bits size =
     codes ".snd" ++ big_bytes 4 24 ++ big_bytes 4 size ++ big_bytes 4 (encoding_of bits) ++ big_bytes 4 rate ++ big_bytes 4 channels

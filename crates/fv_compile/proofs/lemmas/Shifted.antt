@@ -1,4 +1,4 @@
--- A diagram whose controls are numbered behind others.
+-- A diagram whose controls are numbered after others.
 use Rattle.std.proofs.Common.{◌≡◌, ℕ, suc, ◌+◌, ◌-◌, List, [], ◌∷◌, ◌++◌, map, reverse, take, drop, refl, ap, ap₂, ◌∙◌, pos}
 use Rattle.fv_diagram.specs.Frames.{Frame}
 use Rattle.fv_diagram.specs.headline.Diagram.{Diagram, Primitive, Constant, Control, Slot, Wave, Table, Bind, Par, Seq, Split, Merge, Rec, inputs, outputs}

@@ -1,4 +1,4 @@
--- A graph that is copied behind others (this project's profile).
+-- A graph that is copied after others (this project's profile).
 use Rattle.std.specs.Prelude.{◌≡◌, ℕ, ◌+◌, ◌<◌, ◌≤◌, ◌^◌, List, [], ◌++◌, ℤ, length, map, All, pos, slice_index_or}
 use Rattle.fv_base.specs.headline.Lists.{IsPrefixOf}
 use Rattle.fv_base.specs.headline.Lists.{at}
@@ -9,7 +9,7 @@ use Rattle.fv_signal.specs.headline.Value.{Graph, members, definition, table_of,
 use Rattle.fv_share.specs.Drafts.{Draft, AreClosed, BacksWithin, put, graph_of}
 use Rattle.fv_compile.specs.declared.graph_copy.Offsets.{Offsets}
 
--- a signal over the images of its operands, with its numbers behind those that stand before
+-- a signal over the images of its operands, with its numbers after those that stand before
 abbrev pub renumbered : (p : ℕ → ℕ) → Offsets → Signal → Signal
 renumbered p o (Input k) = Input (o.inputs + k)
 renumbered p o (Const n) = Const n
@@ -21,7 +21,7 @@ renumbered p o (Member group k) = Member (o.groups + group) k
 renumbered p o (Read table r) = Read (o.tables + table) (p r)
 renumbered p o (Write table w x r) = Write (o.tables + table) (p w) (p x) (p r)
 
--- the signal's numbers fit behind those that stand before
+-- the signal's numbers fit after those that stand before
 abbrev pub NumbersFit : Offsets → Signal → Type 0
 NumbersFit o (Input k) = o.inputs + k < 2 ^ 64
 NumbersFit o (Const n) = Unit {0}
@@ -89,7 +89,7 @@ pub record IsUnderWay (g : Graph) (o : Offsets) (n : ℕ) (old new : Draft) (ima
   pub copies : (s : ℕ) → s < n → IsImage g new.signals (at images) o (node g s) (at images s)
   pub made : (i : ℕ) → length old.signals ≤ i → i < length new.signals → IsOneOf g o n (slice_index_or new.signals i (Const (pos 0)))
 
--- the tables of g stand behind so many others
+-- the tables of g stand after N others
 abbrev pub AreListed : Graph → (first : ℕ) → (tables : List (List ℤ)) → Type 0
 AreListed g first tables = (t : ℕ) → 0 < length (table_of g t) → slice_index_or tables (first + t) [] ≡ table_of g t
 
@@ -101,11 +101,11 @@ pub record IsCopied (g f : Graph) (p : ℕ → ℕ) (o : Offsets) : Type 0 where
   pub definitions : (group k : ℕ) → group < length g.groups → k < length (members g group) → definition f (o.groups + group) k ≡ p (definition g group k)
   pub tables : AreListed g o.tables f.tables
 
--- the numbers behind so many inputs and controls, and behind the groups and tables of a draft
+-- the numbers after N inputs and controls, and after the groups and tables of a draft
 abbrev pub offsets_behind : (inputs controls : ℕ) → Draft → Offsets
 offsets_behind inputs controls d = record { inputs = inputs; controls = controls; groups = length d.groups; tables = length d.tables }
 
--- g is copied into a draft behind what is there, where these inputs and controls stand before; its outputs' images
+-- g is copied into a draft after what is there, where these inputs and controls stand before; its outputs' images
 pub record IsAppended (g : Graph) (inputs controls : ℕ) (old new : Draft) (outs : List ℕ) : Type 0 where
   pub whole : IsGraph g
   pub grows : IsPrefixOf old.signals new.signals

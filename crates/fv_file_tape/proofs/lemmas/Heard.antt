@@ -1,4 +1,4 @@
--- Samples that were heard, and more behind them.
+-- Samples that were heard, and more after them.
 use Rattle.std.proofs.Common.{◌≡◌, ℕ, zero, suc, ◌+◌, ◌-◌, ◌*◌, ◌/◌, ◌≤◌, List, [], ◌∷◌, ◌++◌, length, take, drop, refl, sym, ap, ap₂, subst, ◌∙◌, arith}
 use Rattle.std.proofs.Common.{◌<◌, ◌^◌, append_assoc, length-append, length-drop, ℤ}
 use Rattle.std.proofs.Math.Nat.{add-mul}
@@ -16,14 +16,14 @@ table_add n (suc m) g =
     let e : n + suc m ≡ suc (n + m) = omega arith in
     ap (λ k. table k g) e ∙ ap (λ xs. xs ++ g (n + m) ∷ []) (table_add n m g) ∙ append_assoc (table n g) (table m (λ u. g (n + u))) (g (n + m) ∷ [])
 
--- a sample behind others
+-- a sample after others
 sample_behind : (c : Coding) (bits a u : ℕ) (bytes : List ℕ) → sample_at c bits (drop (a * (bits / 8)) bytes) u ≡ sample_at c bits bytes (a + u)
 unfolding sample_at
 sample_behind c bits a u bytes =
     let at : a * (bits / 8) + u * (bits / 8) ≡ (a + u) * (bits / 8) = sym (add-mul a u (bits / 8)) in
     ap (sample_of c bits) (drop-drop (u * (bits / 8)) (a * (bits / 8)) bytes ∙ ap (λ (n : ℕ). drop n bytes) at)
 
--- the samples that were heard, and more behind them
+-- the samples that were heard, and more after them
 samples_more : (c : Coding) (bits n m : ℕ) (bytes : List ℕ)
     → samples_in c bits n bytes ++ samples_in c bits m (drop (n * (bits / 8)) bytes) ≡ samples_in c bits (n + m) bytes
 samples_more c bits n m bytes =
@@ -74,7 +74,7 @@ taken_nothing c bits bytes after same =
 pub rows_fit : (n m w : ℕ) → n ≤ m → n * w ≤ m * w
 rows_fit n m w h = let e : n + (m - n) ≡ m = omega (arith, h) in subst (λ (x : ℕ). n * w ≤ x * w) e (omega arith)
 
--- so many samples fit into the bytes
+-- N samples fit into the bytes
 pub room_is : (n most w size long all : ℕ) → n ≤ most → long ≡ n * w → most * w * size ≤ all → long * size ≤ all
 room_is n most w size long all few is room =
     let fit = rows_fit n most w few in

@@ -1,4 +1,4 @@
--- The samples behind some frames are the next frames.
+-- The samples after some frames are the next frames.
 use Rattle.std.proofs.Common.{◌≡◌, ℕ, zero, suc, ◌+◌, ◌*◌, ◌/◌, ◌≤◌, ◌<◌, true, List, [], ◌∷◌, ◌++◌, length, take}
 use Rattle.std.proofs.Common.{drop, get_or, refl, sym, ap, ap₂, ◌∙◌, arith, length-take}
 use Rattle.std.specs.Prelude.{pos}
@@ -26,7 +26,7 @@ table_part m t (suc n) f h =
     take_step : {A : Type 0} (xs : List A) (n : ℕ) (d : A) → n < length xs → take (suc n) xs ≡ take n xs ++ get_or xs n d ∷ []
     take_step xs n d h = let one : suc n ≡ n + 1 = omega arith in ap (λ (k : ℕ). take k xs) one ∙ take_more xs n d h
 
--- a sample behind t frames is one of the bytes behind them
+-- a sample after t frames is one of the bytes after them
 sample_shift : (c : Coding) (bits channels place t k : ℕ) (bytes : List ℕ)
     → sample_at c bits (drop (place + t * frame_size channels bits) bytes) k ≡ sample_at c bits (drop place bytes) (t * channels + k)
 unfolding sample_at

@@ -6,7 +6,8 @@ use Rattle.fv_base.specs.declared.limits.TheConstants.{DATA_LIMIT}
 abbrev pub frame_size : (channels bits : ℕ) → ℕ
 frame_size channels bits = channels * (bits / 8)
 
--- where samples lie in a file: how many a frame has, their bits, how many bytes of them are stated, how many bytes stand before them
+-- Where samples lie in a file: how many a frame has, and their bits; how many bytes of them are stated, and how many bytes stand
+-- before them.
 pub record Layout : Type 0 where
   pub channels : ℕ
   pub bits : ℕ
@@ -29,6 +30,6 @@ present l bytes = take (whole_bytes l) (drop l.place bytes)
 abbrev pub data_limit : ℕ
 data_limit = DATA_LIMIT
 
--- the bytes of so many frames, if a head can state them
+-- how many bytes the samples of this many frames have, if a head can state them
 abbrev pub data_size : (channels bits frames : ℕ) → ℕ
 data_size channels bits frames = frames * frame_size channels bits

@@ -17,7 +17,7 @@ last_part n k xs ys h e =
     ap (λ (zs : List ℕ). take n xs ++ (ys ++ zs)) (drop_all k (drop n xs) (omega (arith, length-drop n xs)))
     ∙ ap (λ (zs : List ℕ). take n xs ++ zs) (append-nil ys)
 
--- those in front, and the first m behind them
+-- those in front, and the first m after them
 pub front_then : (xs ys : List ℕ) (n m : ℕ) → n ≡ length xs → take (n + m) (xs ++ ys) ≡ xs ++ take m ys
 front_then xs ys n m e =
     take-add n m (xs ++ ys) ∙ ap (λ (zs : List ℕ). zs ++ take m (drop n (xs ++ ys))) (take_at xs ys n (sym e))
@@ -31,7 +31,7 @@ in_front : List ℕ → Result (List ℕ × Rest) WaveRefusal → Result (List �
 in_front xs (Ok x) = Ok (xs ++ x.0, x.1)
 in_front xs (Err e) = Err e
 
--- the next bytes are those behind them
+-- the next bytes are those after them
 pub next_behind : (begun left to left1 : List ℕ) (m p : ℕ) → next m (rest_of (length begun) left) ≡ Ok (to, rest_of p left1)
     → next (length begun + m) (rest_of 0 (begun ++ left)) ≡ Ok (begun ++ to, rest_of p left1)
 unfolding next past in_front
@@ -56,7 +56,7 @@ none_behind begun left m e h =
     rw (lt-leb (length begun + m) (length (begun ++ left)) (omega (arith, length-append begun left, n.0)))
     (ap (λ (k : ℕ). Err (WaveTruncated k)) (zero-add (length (begun ++ left)) ∙ length-append begun left) ∙ ap (λ (x : WaveRefusal). Err x) (sym n.1))
 
--- a buffer of so many bytes that holds them, and then others
+-- a buffer of N bytes that holds them, and then others
 pub filled_behind : (size : ℕ) (begun front zeros to : List ℕ) → length begun ≤ size → front ≡ begun → length zeros ≡ size
     → put_mid (length begun) (size - length begun) (front ++ drop (length begun) zeros) to ≡ begun ++ to
 filled_behind size begun front zeros to few is long =

@@ -52,7 +52,7 @@ stops_then {P} {Q} R {a = a} {b = b} {c = c} {e = e} p s f =
 pub stops_as : {Q : Type 0} (R : Type 0) {a c : DeskState} {e : WaveRefusal} → Stops Q a c e → (Q → R) → Stops R a c e
 stops_as R {e = e} s f = stops_then R (passes_nothing {P = Unit {0}} _ (λ _. tt)) s (λ _ q. f q)
 
--- a rule fails behind a reading
+-- a rule fails after a reading
 pub fails_then : {P : Type 0} (R : Type 0) {n : ℕ} {a b : DeskState} (place : ℕ) → Passes n P a b → (P → R) → Stops R a b (WaveFormat place)
 fails_then R place p f = record { some = record { bytes = p.bytes; takes = p.takes }; cause = record { steady = p.steady; told = λ t. f (p.told t) } }
 

@@ -33,12 +33,12 @@ abbrev pub rule : Bool → ℕ → Result (Unit {0}) WaveRefusal
 rule true place = Ok tt
 rule false place = Err (WaveFormat place)
 
--- the reading goes on behind the next n bytes, or the file ends before
+-- the reading after the next n bytes where the test says that they are there, else the file ends before them
 abbrev pub behind : Bool → ℕ → Rest → Result Rest WaveRefusal
 behind true n r = Ok (rest_of (r.place + n) (drop n r.bytes))
 behind false n r = Err (WaveTruncated (r.place + length r.bytes))
 
--- the reading behind the next n bytes, or the file ends before
+-- the reading after the next n bytes, or the file ends before
 unfoldable pub past : ℕ → Rest → Result Rest WaveRefusal
 past n r = behind (nat_le n (length r.bytes)) n r
 
@@ -62,7 +62,7 @@ extensible_tag = 65534
 abbrev pub plain_samples : List ℕ
 plain_samples = 1 ∷ 0 ∷ 0 ∷ 0 ∷ 0 ∷ 0 ∷ 16 ∷ 0 ∷ 128 ∷ 0 ∷ 0 ∷ 170 ∷ 0 ∷ 56 ∷ 155 ∷ 113 ∷ []
 
--- one of these two tags
+-- a tag that a file may have: that of plain samples, or that of a sub-format
 abbrev pub is_tag : ℕ → Bool
 is_tag tag = (tag == plain_tag) || (tag == extensible_tag)
 
@@ -70,7 +70,7 @@ is_tag tag = (tag == plain_tag) || (tag == extensible_tag)
 abbrev pub least_size : ℕ → ℕ
 least_size tag = if tag == extensible_tag then 40 else 16
 
--- a chunk's size is even in the file: one byte more stands behind an odd one
+-- a chunk's size is even in the file: one byte more stands after an odd one
 abbrev pub padded : ℕ → ℕ
 padded size = size + size % 2
 
@@ -84,13 +84,13 @@ tag_at size r =
     rule (nat_le 16 size) (r.place - 4) >>= λ _. number 2 r >>= λ tag. rule (is_tag tag.0) r.place
     >>= λ _. rule (nat_le (least_size tag.0) size) (r.place - 4) >>= λ _. Ok tag
 
--- the fields behind the rate: the byte rate, which may be any, and the sizes of a frame and of a sample
+-- the fields after the rate: the byte rate, which may be any, and the sizes of a frame and of a sample
 unfoldable pub shape_at : (channels : ℕ) → Rest → Result (ℕ × Rest) WaveRefusal
 shape_at channels r =
     past 4 r >>= λ at. number 2 at >>= λ align. number 2 align.1
     >>= λ bits. rule (is_sample_width bits.0) (r.place + 6) >>= λ _. rule (align.0 == frame_size channels bits.0) (r.place + 4) >>= λ _. Ok bits
 
--- the fields behind the tag
+-- the fields after the tag
 unfoldable pub sound_at : Rest → Result (Format × Rest) WaveRefusal
 sound_at r =
     number 2 r >>= λ channels. rule (is_channels channels.0) r.place >>= λ _. number 4 channels.1
@@ -105,15 +105,15 @@ extension true r = past 8 r >>= λ at. next 16 at >>= λ sub. rule (bytes_eq sub
 unfoldable pub fields : ℕ → Rest → Result (Format × Rest) WaveRefusal
 fields size r = tag_at size r >>= λ tag. sound_at tag.1 >>= λ sound. extension (tag.0 == extensible_tag) sound.1 >>= λ end. Ok (sound.0, end)
 
--- behind the body of a chunk that begins here, with the byte that makes it even
+-- after the body of a chunk that begins here, with the byte that makes it even
 unfoldable pub behind_body : (size start : ℕ) → Rest → Result Rest WaveRefusal
 behind_body size start r = past (padded size - (r.place - start)) r
 
--- a `fmt ` chunk, behind its name
+-- a `fmt ` chunk, after its name
 unfoldable pub format_chunk : Rest → Result (Format × Rest) WaveRefusal
 format_chunk r = number 4 r >>= λ size. fields size.0 size.1 >>= λ format. behind_body size.0 size.1.place format.1 >>= λ end. Ok (format.0, end)
 
--- a chunk that is passed over, behind its name
+-- a chunk that is passed over, after its name
 unfoldable pub other_chunk : Rest → Result Rest WaveRefusal
 other_chunk r = number 4 r >>= λ size. past (padded size.0) size.1
 
@@ -121,7 +121,7 @@ other_chunk r = number 4 r >>= λ size. past (padded size.0) size.1
 abbrev pub unknown_size : ℕ
 unknown_size = 2 ^ 32 - 1
 
--- a `data` chunk whose name stands at this place, behind the name
+-- a `data` chunk whose name stands at this place, after the name
 unfoldable pub data_chunk : Option Format → ℕ → Rest → Result Head WaveRefusal
 data_chunk None place r = Err (WaveFormat place)
 data_chunk (Some format) place r =
@@ -139,14 +139,14 @@ last_chunk kind.Format (Some format) place r = Err (WaveFormat place)
 last_chunk kind.Format None place r = Err (WaveChunks place)
 last_chunk kind.Other seen place r = Err (WaveChunks place)
 
--- a chunk where more may, and what follows
+-- a chunk where more chunks may stand before `data`, and what follows
 abbrev pub any_chunk : Kind → Option Format → ℕ → Rest → (Option Format → Rest → Result Head WaveRefusal) → Result Head WaveRefusal
 any_chunk kind.Data seen place r on = data_chunk seen place r
 any_chunk kind.Format (Some format) place r on = Err (WaveFormat place)
 any_chunk kind.Format None place r on = format_chunk r >>= λ format. on (Some format.0) format.1
 any_chunk kind.Other seen place r on = other_chunk r >>= λ end. on seen end
 
--- The chunks from here on, of which so many may still stand before `data`, where this format was seen.
+-- The chunks from here on, where this format was seen. The number is how many may still stand before `data`.
 unfoldable pub walk : ℕ → Option Format → Rest → Result Head WaveRefusal
 walk zero seen r = next 4 r >>= λ name. last_chunk (kind_of name.0) seen r.place name.1
 walk (suc room) seen r = next 4 r >>= λ name. any_chunk (kind_of name.0) seen r.place name.1 (walk room)

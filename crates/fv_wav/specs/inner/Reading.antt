@@ -7,7 +7,7 @@ use Rattle.fv_wav.specs.declared.head.Kind.{Kind}
 use Rattle.fv_wav.specs.declared.refusal.WaveRefusal.{WaveRefusal}
 use Rattle.fv_wav.specs.headline.Reading.{Rest, last_chunk, any_chunk, walk}
 
--- a chunk of this kind, behind its name, and what follows
+-- a chunk of this kind, after its name, and what follows
 abbrev pub chunk_at : ℕ → Kind → Option Format → ℕ → Rest → Result Head WaveRefusal
 chunk_at zero k seen place r = last_chunk k seen place r
 chunk_at (suc room) k seen place r = any_chunk k seen place r (walk room)

@@ -8,7 +8,7 @@ use Rattle.fv_compile.specs.inner.Copied.{IsAppended}
 use Rattle.fv_compile.proofs.Joins.{AreJoined, one_job_more, joined_result}
 use Rattle.fv_compile.proofs.joined.join.Goals as goal
 
--- the job's inputs and controls behind those before fit
+-- the job's inputs and controls after those before fit
 within : (f : Job → ℕ) (jobs : List Job) (n now : ℕ) (job : Job) → n < length jobs → job ≡ get_or jobs n job → now ≡ sum_by f (take n jobs)
     → sum_by f jobs < 2 ^ 32 → now + f job < 2 ^ 32
 within f jobs n now job l is e h = let le = sum_by_more_le f jobs n job l in omega (arith, le, ap f is, e, h)
