@@ -12,7 +12,7 @@ use Rattle.fv_lines.proofs.lemmas.Parts.{replaced, length_replaced, new_there, k
 abbrev pub IsAt : (m s j cell : ℕ) → Type 0
 IsAt m s j cell = (cell ≡ s + j × cell ≤ m) ⊎ (cell + m ≡ s + j)
 
--- b of n, where so many are left before the end
+-- b of n, where `left` are left before the end
 abbrev pub IsFirst : (n left b : ℕ) → Type 0
 IsFirst n left b = (b ≡ n × n ≤ left) ⊎ (b ≡ left × left ≤ n)
 
@@ -31,7 +31,7 @@ at_of h m s j sum cell e small large = elim (cases_lt 16 h) [
 ]
 
 module _ {A : Type 0} where
-  -- of two lists, one behind the other, n items from number f on: b of the first from number s on, and then those of the second
+  -- of two lists, one after the other, n items from number f on: b of the first from number s on, and then those of the second
   pub two_lists : (xs ys : List A) (f n s b : ℕ) → IsFirst f (length xs) s → IsFirst n (length xs - s) b
       → take b (drop s xs) ++ take (n - b) (drop (f - s) ys) ≡ take n (drop f (xs ++ ys))
   two_lists xs ys f n s b at cut = elim at [
@@ -53,7 +53,7 @@ module _ {A : Type 0} where
         ∙ ap (take n) (sym (drop-append-add xs ys (f - length xs)) ∙ ap (λ (k : ℕ). drop k (xs ++ ys)) from)
   ]
 
-  -- the first b items of a list are replaced by xs, and then those behind them by ys
+  -- the first b items of a list are replaced by xs, and then those after them by ys
   pub both_put : (to xs ys : List A) (b : ℕ) → length xs ≡ b
       → take b (xs ++ drop b to) ++ (ys ++ drop (length (xs ++ drop b to) - b) (drop b (xs ++ drop b to))) ≡ xs ++ ys
   both_put to xs ys b long =
@@ -100,7 +100,7 @@ module _ {A : Type 0} where
   abbrev pub written : (cells values : List A) (cell b : ℕ) → List A
   written cells values cell b = replaced (replaced cells cell (cell + b) (take b values)) 0 (length values - b) (drop b values)
 
-  -- these values can be written behind n of the ring order from s on
+  -- these values can be written after n of the ring order from s on
   pub record MayWrite (cells values : List A) (s n cell b : ℕ) : Type 0 where
     pub inside : s ≤ length cells
     pub fits : n + length values ≤ length cells

@@ -73,7 +73,7 @@ reached s i r valid l =
       );
     }
 
--- a number that is so many more, and no more than f
+-- a number that is n more, and no more than f
 pub counted : (w : List ℕ) (i j n f : ℕ) → i < length w → slice_index w i + n ≤ f → slice_index w j ≤ f
     → slice_index (set w i (slice_index w i + n)) j ≤ f
 counted w i j n f l less le = elim (same_or_not i j) [

@@ -13,19 +13,19 @@ use Rattle.fv_lines.specs.declared.writer.LaneWriter.{LaneWriter}
 abbrev pub lengths_by : List LaneShape → List ℕ
 lengths_by shapes = map (λ (s : LaneShape). s.len) shapes
 
--- the first was cut out of the loan γ, each other one out of what was left then, and at last the loan δ is left
+-- The first writer was cut out of the loan γ, and each other one out of what was left then. At last the loan δ is left.
 abbrev pub IsChain : GName → GName → List LaneWriter → Type 0
 IsChain γ δ [] = γ ≡ δ
 IsChain γ δ (w ∷ ws) = ((outer_of w).whole ≡ γ) × IsChain (outer_of w).high δ ws
 
--- each lane finds its part in the cells, with a history where its state says, and takes so many samples
+-- each lane finds its part in the cells, with a history where its state says, and takes N samples
 pub record MayBegin (shapes : List LaneShape) (states : List LaneState) (frames : ℕ) (cells : List ℤ) : Type 0 where
   pub count : length states ≡ length shapes
   pub room : sum (lengths_by shapes) ≤ length cells
   pub framed : (i : ℕ) (d : LaneShape) → i < length shapes → frames ≤ (slice_index_or shapes i d).block
   pub holds : (i : ℕ) (d : LaneShape) → i < length shapes → Holds (slice_index_or shapes i d) (start_at states i) (part (lengths_by shapes) i cells)
 
--- a lane that begins with the history that a start names in these cells, and takes so many samples
+-- a lane that begins with the history that a start names in these cells, and takes N samples
 pub record IsBegun (shape : LaneShape) (start frames : ℕ) (cells : List ℤ) (w : LaneWriter) : Type 0 where
   pub list : list_of w ≡ held shape start cells
   pub written : written_by w ≡ 0

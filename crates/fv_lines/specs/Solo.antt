@@ -156,7 +156,7 @@ abbrev pub AreFull : List Lane → Type 0
 AreFull lanes = (i : ℕ) → i < length lanes → (lane_of lanes i).room ≡ 0
 
 -- these states and the cells hold the end of each lane's list:
--- as many samples as its history, what lies behind so many samples as the lanes were begun for
+-- as many samples as its history, what lies after N samples as the lanes were begun for
 abbrev pub HoldNext : Solo → List LaneState → Type 0
 HoldNext s states =
     (i : ℕ) → i < length (lanes_of s)

@@ -8,7 +8,7 @@ ghost use Rattle.fv_lines.specs.Shape.{copied_history, Turned};
 use crate::items::copy_if_some;
 use crate::shape::{COPIED_HISTORY, LaneShape, LaneState};
 
-/// Writes the block's sample number `index`, behind all before it.
+/// Writes the block's sample number `index`, after all before it.
 pub(crate) fn put(cells: &mut [i32], shape: &LaneShape, origin: u64, index: u64, value: i32)
     requires begun { IsBegun shape.now.history shape.now.len origin cells.old }
     requires room { shape.now.history + index < shape.now.len }
@@ -19,7 +19,7 @@ pub(crate) fn put(cells: &mut [i32], shape: &LaneShape, origin: u64, index: u64,
     cells[shape.cell(origin + index) as usize] = value;
 }
 
-/// The sample that lies so far back before the block's sample number `index`.
+/// The sample that lies `back` samples before the block's sample number `index`.
 pub(crate) fn get(cells: &[i32], shape: &LaneShape, origin: u64, index: u64, back: u64) -> i32
     requires begun { IsBegun shape.now.history shape.now.len origin cells.now }
     requires small { index < 2 ^ 32 }
@@ -30,7 +30,7 @@ pub(crate) fn get(cells: &[i32], shape: &LaneShape, origin: u64, index: u64, bac
     cells[shape.cell(origin + index - back) as usize]
 }
 
-/// Writes these samples of the block from number `index` on, behind all before them.
+/// Writes these samples of the block from number `index` on, after all before them.
 pub(crate) fn put_many(
     cells: &mut [i32],
     shape: &LaneShape,
@@ -51,7 +51,7 @@ pub(crate) fn put_many(
     copy_if_some(&mut cells[..values.len() - before], &values[before..]);
 }
 
-/// As many samples as `to` has, which lie so far back before the block's samples from number `index` on.
+/// Fills `to` with the samples that lie `back` samples before the block's samples from number `index` on.
 pub(crate) fn get_many(
     cells: &[i32],
     shape: &LaneShape,
@@ -91,7 +91,7 @@ pub(crate) fn settle(cells: &mut [i32], shape: &LaneShape, state: LaneState) -> 
     }
 }
 
-/// Where the history lies that comes after so many frames.
+/// Where the next history lies, after `frames` frames.
 pub(crate) fn advance(shape: &LaneShape, origin: u64, frames: u32) -> LaneState
     requires begun { HasOrigin shape.now.history shape.now.len origin }
     requires frames { frames ≤ shape.now.block }

@@ -3,7 +3,7 @@
 ghost use Rattle.std.specs.Prelude.{◌≡◌, ◌<◌, length};
 ghost use Rattle.fv_loopcode.specs.Tables.{place as place_of, read_at, written};
 
-// The place that an index means in a list of so many items.
+// The place that an index means in a list of `count` items: its own, or the nearest one.
 fn place(count: usize, index: i32) -> usize
     requires { 0 < count }
     ensures is { result ≡ place_of count index }
@@ -23,7 +23,7 @@ pub fn item(list: &[i32], index: i32) -> i32
     list[place(list.len(), index)]
 }
 
-/// Puts `x` at the index `w`, and answers the item that is then at the index `r`, each clamped to the list.
+/// Puts `x` at the index `w`, and returns the item that is then at the index `r`. Both indices are clamped to the list.
 pub fn exchange(list: &mut [i32], w: i32, x: i32, r: i32) -> i32
     requires { 0 < length list.old }
     ensures item { result ≡ read_at list.new r }

@@ -10,7 +10,7 @@ use crate::{LaneState, LaneWriter};
 use fv_pool::Ended;
 
 /// Ends the lanes, which are written whole, from the last one on. The states then name each lane's next history. `rest` is how the
-/// loan of the cells behind them ended.
+/// loan of the cells ended that come after the lanes.
 pub fn end_lanes<'a>(mut all: Vec<LaneWriter<'a>>, rest: Ended, states: &mut [LaneState]) -> Ended
     requires full { All (λ w. written_by w ≡ frames_of w) all.items }
     requires count { length states.old ≡ length all.items }

@@ -27,7 +27,7 @@ impl LaneShape {
     ghost use Rattle.fv_lines.specs.Shape.{Turned};
     ghost use Rattle.fv_lines.specs.Hold.{begun_at};
 
-    /// The shape of a lane that keeps so many samples and takes up to so many more in a block.
+    /// The shape of a lane that keeps `history` samples and takes up to `block` more in a block.
     pub fn new(history: u32, block: u32) -> LaneShape
         requires { (1 ≤ block) × (history + block ≤ 2 ^ 31) }
         ensures { (result.history ≡ history) × (result.block ≡ block) × IsLaneLength history block result.len }
@@ -58,7 +58,7 @@ impl LaneShape {
         self.len
     }
 
-    /// The cell that comes after `n` cells, where a ring begins anew behind its last cell.
+    /// The cell that comes after `n` cells, where a ring begins anew after its last cell.
     pub(crate) fn cell(&self, n: u64) -> u64
         requires copied { self.now.history ≤ copied_history → n ≤ self.now.len }
         requires ring { copied_history < self.now.history → n < self.now.len + self.now.len }

@@ -5,15 +5,21 @@ use crate::flat::{advance, get, get_many, put, put_many, settle};
 use crate::shape::{LaneShape, LaneState};
 use fv_pool::Layout;
 
-/// All lanes of a layout, lent to one worker for a block. Each of its loans has a lifetime of its own, so that who lent them knows what they end with.
-/// What a load or an append needs to know of a lane lies in one record. The shapes and the states are looked into where the block begins and ends.
+/// All lanes of a layout, lent to one worker for a block. Each borrow has a lifetime of its own, so that the owner knows what each
+/// of them ends with.
 #[derive(Drop)]
 pub struct Solo<'a, 'l, 's, 'b, 'c> {
+    // The cells of all lanes.
     cells: &'a mut [i32],
+    // Where each lane's part of the cells begins, and how long it is.
     layout: &'l Layout,
+    // By lane: its shape. It is read where the block begins and ends.
     shapes: &'s [LaneShape],
+    // By lane: where its history begins. It is read where the block begins, and set where it ends.
     states: &'b mut [LaneState],
+    // By lane: what a load or an append needs to know of it, in one record.
     begun: &'c mut [BegunLane],
+    // How many samples each lane takes in the block.
     frames: u32,
 }
 
@@ -67,7 +73,7 @@ impl<'a, 'l, 's, 'b, 'c> Solo<'a, 'l, 's, 'b, 'c> {
         }
     }
 
-    /// One more sample of a lane.
+    /// Appends a sample to a lane.
     pub fn append(&mut self, lane: u64, value: i32)
         requires valid { IsSolo self.old }
         requires there { lane < length (lanes_of self.old) }
@@ -79,7 +85,7 @@ impl<'a, 'l, 's, 'b, 'c> Solo<'a, 'l, 's, 'b, 'c> {
         self.write(lane, value);
     }
 
-    /// The sample of a lane that lies so far back before a sample of the block.
+    /// The sample of a lane that lies `back` samples before sample `index` of the block.
     pub fn at(&self, lane: u64, index: u64, back: u64) -> i32
         requires valid { IsSolo self.now }
         requires there { lane < length (lanes_of self.now) }
@@ -113,7 +119,7 @@ impl<'a, 'l, 's, 'b, 'c> Solo<'a, 'l, 's, 'b, 'c> {
         self.frames - self.begun[lane as usize].written
     }
 
-    /// The sample that lies so far back before a sample of the block is there.
+    /// Whether the sample that lies `back` samples before sample `index` of the block is there.
     pub fn has_sample(&self, lane: u64, index: u64, back: u64) -> bool
         requires valid { IsSolo self.now }
         requires there { lane < length (lanes_of self.now) }
@@ -127,7 +133,7 @@ impl<'a, 'l, 's, 'b, 'c> Solo<'a, 'l, 's, 'b, 'c> {
         back <= newest && newest - back < history + u64::from(begun.written)
     }
 
-    /// The lane has just so many samples of the block.
+    /// Whether the lane has just `samples` samples of the block.
     pub fn has_just(&self, lane: u64, samples: u64) -> bool
         requires valid { IsSolo self.now }
         requires there { lane < length (lanes_of self.now) }
@@ -136,8 +142,8 @@ impl<'a, 'l, 's, 'b, 'c> Solo<'a, 'l, 's, 'b, 'c> {
         samples == u64::from(self.begun[lane as usize].written)
     }
 
-    /// The samples that lie so far back before as many samples of the block, from this one on. The cells of a lane lie one after another, so
-    /// they are one or two copies.
+    /// Fills `to` with the samples that lie `back` samples before those of the block from number `index` on. The cells of a lane
+    /// lie one after another, so they are one or two copies.
     pub fn load_many(&self, lane: u64, index: u64, back: u64, to: &mut [i32])
         requires valid { IsSolo self.now }
         requires there { lane < length (lanes_of self.now) }
@@ -149,7 +155,7 @@ impl<'a, 'l, 's, 'b, 'c> Solo<'a, 'l, 's, 'b, 'c> {
         self.read_many(lane, index, back, to)
     }
 
-    /// These samples of a lane, one after another.
+    /// Appends these samples to a lane, one after another.
     pub fn append_many(&mut self, lane: u64, values: &[i32])
         requires valid { IsSolo self.old }
         requires there { lane < length (lanes_of self.old) }
@@ -182,7 +188,7 @@ impl<'a, 'l, 's, 'b, 'c> Solo<'a, 'l, 's, 'b, 'c> {
         }
     }
 
-    // One more sample of a lane, by its number of written samples.
+    // Appends a sample to a lane, by its number of written samples.
     fn write(&mut self, lane: u64, value: i32)
         requires valid { IsSolo self.old }
         requires there { lane < length (lengths_in self.old) }
@@ -206,7 +212,7 @@ impl<'a, 'l, 's, 'b, 'c> Solo<'a, 'l, 's, 'b, 'c> {
         self.begun[i].written += 1;
     }
 
-    // These samples of a lane, by its number of written samples.
+    // Appends these samples to a lane, by its number of written samples.
     fn write_many(&mut self, lane: u64, values: &[i32])
         requires valid { IsSolo self.old }
         requires there { lane < length (lengths_in self.old) }

@@ -8,15 +8,23 @@ use crate::seen::Seen;
 use crate::shape::{COPIED_HISTORY, LaneShape, LaneState};
 use fv_pool::{Ended, Halves, Part};
 
-/// A lane over a part of the region, from its history on: the cells from its start to the part's end, and those before.
+/// A lane that is written in one block, over a part of the region: from its history on to the part's end, and then from the part's
+/// front.
 #[derive(Drop)]
 pub struct LaneWriter<'a> {
+    // The cells from where the history begins to the part's end.
     high: Row<'a>,
+    // The cells of the part before those: none where the history is copied to the front.
     low: Row<'a>,
+    // How the loans of both rows make that of the part.
     halves: Halves,
+    // How the loans of the part and of what comes after it make the one that the part was cut from.
     outer: Halves,
+    // How long the lane is, and how its history lies.
     shape: LaneShape,
+    // How many samples the block has.
     frames: u32,
+    // How many of them were written.
     written: u32,
     ghost inner: { outer.low ≡ halves.whole },
     ghost tied: { (halves.low ≡ low.link.whole) × (halves.high ≡ high.link.whole) },
@@ -32,7 +40,7 @@ impl<'a> LaneWriter<'a> {
     ghost use Rattle.fv_lines.specs.Seen.{samples_of, lane_seen};
     ghost use Rattle.fv_lines.specs.Writer.{list_of, content_of, part_of, outer_of, written_by, frames_of, shape_of};
 
-    /// One more sample.
+    /// Appends a sample.
     pub fn append(&mut self, value: i32)
         requires { written_by self.old < frames_of self.old }
         ensures list { list_of self.new ≡ list_of self.old ++ value ∷ [] }
@@ -48,7 +56,7 @@ impl<'a> LaneWriter<'a> {
         self.written += 1;
     }
 
-    /// These samples, one after another: as many as the cells up to the part's end take, and then the others.
+    /// Appends these samples, one after another: as many as the cells up to the part's end take, and then the others.
     pub fn append_many(&mut self, values: &[i32])
         requires { written_by self.old + length values.now ≤ frames_of self.old }
         ensures list { list_of self.new ≡ list_of self.old ++ values.now }
@@ -158,7 +166,7 @@ impl<'a> LaneWriter<'a> {
         (seen, LaneState { start }, ended, outer)
     }
 
-    /// The history that the lane began with, whatever is written behind it: where it lies, how the part's loan ends, and what ties it to
+    /// The history that the lane began with, whatever is written after it: where it lies, how the part's loan ends, and what ties it to
     /// the loan that it was cut from.
     pub fn stop(self) -> (LaneState, Ended, Halves)
         ensures ended { (result.1.name ≡ part_of self.entry) × (result.1.last ≡ content_of self.entry) }

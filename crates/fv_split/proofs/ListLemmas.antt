@@ -81,7 +81,7 @@ coded_more codes n all new x h e is = record {
   ];
 }
 
--- the steps behind the first codes
+-- the steps after the first codes
 pub code_behind : (front rest : List (Vec Step Global)) (v : Vec Step Global) → code_in (front ++ v ∷ rest) (length front) ≡ v.items
 code_behind [] rest v = refl
 code_behind (c ∷ cs) rest v = code_behind cs rest v

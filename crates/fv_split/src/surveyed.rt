@@ -24,7 +24,7 @@ pub struct Surveyed {
     pub held: Vec<Step>,
 }
 
-/// What is found out about a graph with these rates, and the loop and the table of each of its cells, which are a plan's own.
+/// What is found out about a graph with these rates. Beside it, the loop and the table of each of its cells, which the plan keeps.
 pub(crate) fn survey_graph(
     alloc: Global,
     graph: &Graph,

@@ -145,7 +145,7 @@ ServesUpTo g p r t j s regs steps =
     (means : List Mean) × (ended : Place → Bool) × Serves g p r (known_at t.homes.items j s) regs steps means ended
     × EndedAre p r (known_at t.homes.items j s) ended
 
--- the code behind the append to a signal's lane, where it has one
+-- the code after the append to a signal's lane, where it has one
 abbrev pub with_append : List Step → Option ℕ → (w : ℕ) → List Step
 with_append steps None w = steps
 with_append steps (Some l) w = steps ++ step.Append l w ∷ []

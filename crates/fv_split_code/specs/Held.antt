@@ -29,8 +29,8 @@ ReadsWithin g (step.Append lane value) = Unit {0}
 ReadsWithin g (step.Read table arg) = 0 < length (table_of g table)
 ReadsWithin g (step.Write cells args) = Unit {0}
 
--- The code has a register for each of these signals, with its value at each time at which the controls that the code names are
--- those of that time. Each held value below s is one of them, and its number says which.
+-- The code has a register for each of these signals. It has the signal's value at each time at which the controls that the code
+-- names are those of that time. Each held value below s is one of them, and its number says which.
 pub record HoldsUpTo (g : Graph) (s : ℕ) (numbers : List ℕ) (steps : List Step) : Type 0 where
   pub signals : List ℕ
   pub long : length signals ≡ length steps

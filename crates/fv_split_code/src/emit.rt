@@ -296,7 +296,7 @@ fn add(
     append(code, survey.lanes[s as usize], register)
 }
 
-// Few loops have more steps: so many have room before the code of a loop grows.
+// How many steps the code of a loop has room for before it grows. Few loops have more.
 const STEPS_AT_FIRST: usize = 16;
 
 // No code for each loop.

@@ -116,7 +116,7 @@ module _ (reads : Links) (inner : ℕ → Bool) (owners : List ℕ) (loops : ℕ
       led : (i x : ℕ) → i < length (reads s) → at (reads s) i ≡ x → Leads reads s x
       led i x m e = record { place = i; within = m; is = e }
 
-      -- what stands at s or behind it stays
+      -- what stands at s or after it stays
       stays : (x : ℕ) → s ≤ x → at new x ≡ at homes x
       stays x g = elim (fates x) [
         | Now i m e y h ↦ absurd (let z : x < s = lower s x (led i x m e) in omega arith)

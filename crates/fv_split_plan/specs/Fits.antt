@@ -70,7 +70,7 @@ pub record WriteFits (g : Graph) (p : Names) (r : Roles) (done : Place → Bool)
 abbrev pub IsAlways : Graph → ℕ → ℤ → Type 0
 IsAlways g s n = (X : List Frame) (c : ℕ → Stream) (t : ℕ) → value g s X c t ≡ n
 
--- what a step is for, behind registers with these means
+-- what a step is for, after registers with these means
 abbrev pub StepFits : Graph → Names → Roles → (done : Place → Bool) → List Mean → Step → Mean → Type 0
 StepFits g p r done ms (step.Number n) m = (m ≡ Literal n) ⊎ ((s : ℕ) × IsAlways g s n × (m ≡ Value s))
 StepFits g p r done ms (step.Held k) m = (k < p.count) × (m ≡ Value (p.held k))

@@ -14,8 +14,9 @@ use Rattle.fv_split_plan.specs.View.{loops_of}
 use Rattle.fv_split_plan.specs.headline.Fits.{flows}
 use Rattle.fv_split_plan.specs.headline.Plans.{PlanStands, PlanReads}
 
--- The property of each task: where a block starts at time start, its inputs are those of X and its held values those of the
--- samples of this task, and lanes and cells hold what they are to hold before the task, the code may run, and they do after it.
+-- The property of each task, in a block that starts at time start. The inputs are those of X, and the held values those of the
+-- samples of this task. Where lanes and cells hold what they are to hold before the task, the code may run, and after it they hold
+-- what they are to hold then.
 abbrev pub DoesTasks : Graph → PlanView → Type 0
 DoesTasks g p =
     (s : PlanStands g p) (X : List Frame) (c : ℕ → Stream) (start from count rest j : ℕ) (held : ℕ → ℤ) (inputs : ℕ → ℕ → ℤ) (state : State) →

@@ -15,7 +15,7 @@ pub fn plans_do_tasks()
     ensures { (g : Graph) (p : PlanView) → DoesTasks g p }
 {}
 
-/// Each lane and each cells of a plan have one loop, and a loop loads its own lanes and those of loops that it is told to read.
+/// Each lane and each cells of a plan has one loop. A loop loads its own lanes, and those of loops that it is told to read.
 pub fn plans_are_apart()
     ensures { PlansAreApart }
 {}

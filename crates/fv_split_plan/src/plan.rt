@@ -11,17 +11,24 @@ use fv_loopcode_machine::Code;
 use fv_outside::Reads;
 use std::marker::Model;
 
-/// The loops of a graph: their lanes, tables, cells and code, which of them read lanes of which others, the lane of each of the
-/// program's outputs, and the code of the held values. It stands for some graph.
+/// A plan: the loops of a graph and what each of them computes. It stands for some graph.
 #[derive(Drop)]
 pub struct Plan {
+    // How many loops there are.
     loops: u64,
+    // By lane: its loop, and how much history it keeps.
     lanes: Vec<LaneInfo>,
+    // The graph's tables.
     tables: Vec<Vec<i32>>,
+    // By cells: the loop that writes them, and the table that they begin with.
     cells: Vec<CellsInfo>,
+    // By loop: its code.
     codes: Vec<Code>,
+    // Which loop loads lanes of which other, each pair once.
     reads: Vec<Reads>,
+    // By output of the program: its lane.
     outputs: Vec<u64>,
+    // The code that computes the held values.
     held: Code,
 }
 

@@ -33,7 +33,7 @@ NumbersFit o (Member group k) = o.groups + group < 2 ^ 64
 NumbersFit o (Read table r) = o.tables + table < 2 ^ 64
 NumbersFit o (Write table w x r) = o.tables + table < 2 ^ 64
 
--- so it is with each signal
+-- the numbers of each signal fit after those that stand before
 abbrev pub HaveRoom : Offsets → Graph → Type 0
 HaveRoom o g = (s : ℕ) (d : Signal) → s < length g.signals → NumbersFit o (slice_index_or g.signals s d)
 

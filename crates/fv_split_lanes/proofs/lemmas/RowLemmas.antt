@@ -41,7 +41,7 @@ rows_more f n rows new row h e is = subst (AreRows f (n + 1)) (sym e) record {
   ];
 }
 
--- all rows are those of f, which has none behind them
+-- all rows are those of f, which has none after them
 pub rows_are : (f : Links) (n : ℕ) (rows : List (List ℕ)) → AreRows f n rows → ((s : ℕ) → n ≤ s → f s ≡ []) → next_of rows ≡ f
 rows_are f n rows h none = fun_ext (λ s. elim (cases_lt s n) [
   | inl l ↦ h.each s l

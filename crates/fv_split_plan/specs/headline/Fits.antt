@@ -8,8 +8,8 @@ use Rattle.fv_signal.specs.headline.Value.{Graph, table_of, value}
 use Rattle.fv_loopcode.specs.headline.Obeys.{Flows}
 use Rattle.fv_analysis.specs.headline.Stands.{node}
 
--- The names of a plan: the signal of each lane, how much history it keeps, how many held values there are, the signal of each
--- of them, and that of each cells.
+-- The names of a plan: the signal of each lane and how much history the lane keeps; how many held values there are, and the signal
+-- of each; and the signal of each cells.
 pub record Names : Type 0 where
   pub lane : ℕ → ℕ
   pub history : ℕ → ℕ

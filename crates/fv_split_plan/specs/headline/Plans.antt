@@ -26,8 +26,8 @@ pub record LanesStand (g : Graph) (p : PlanView) (names : Names) : Type 0 where
   pub all : (s : ℕ) → IsSeparated g s → (l : ℕ) × (l < length p.lanes) × (names.lane l ≡ s)
   pub histories : (l : ℕ) → l < length p.lanes → (lane_info p l).history ≡ history_of g (names.lane l)
 
--- Two lanes have one loop exactly where each of their signals reaches the other, each loop has a lane, and what a lane's
--- signal reaches has no greater loop.
+-- Two lanes have one loop exactly where each of their signals reaches the other. Each loop has a lane, and what a lane's signal
+-- reaches has no greater loop.
 pub record LoopsStand (g : Graph) (p : PlanView) (names : Names) : Type 0 where
   pub together : (l m : ℕ) → l < length p.lanes → m < length p.lanes →
       ((lane_info p l).owner ≡ (lane_info p m).owner) ↔

@@ -7,8 +7,8 @@ use Rattle.fv_loopcode.specs.headline.Obeys.{Roles, Place, OfLane, OfCells}
 use Rattle.fv_split_plan.specs.declared.lane.LaneInfo.{LaneInfo}
 use Rattle.fv_split_plan.specs.declared.lane.CellsInfo.{CellsInfo}
 
--- how many loops, the lanes, the tables, the cells, the code of each loop, which loop reads which other, the lane of each output,
--- and the held code
+-- What a plan has: how many loops there are, the lanes, the tables, the cells, and the code of each loop. Then which loop reads
+-- which other, the lane of each output, and the code of the held values.
 pub record PlanView : Type 0 where
   pub loops : ℕ
   pub lanes : List LaneInfo
@@ -42,6 +42,6 @@ abbrev pub is_own : PlanView → ℕ → Place → Bool
 is_own p j (OfLane l) = nat_lt l (length p.lanes) && nat_eq (lane_info p l).owner j
 is_own p j (OfCells k) = nat_lt k (length p.cells) && nat_eq (cells_info p k).owner j
 
--- these, and the lanes that its code loads
+-- what a loop may change and load: its own places, and the lanes that its code loads
 abbrev pub roles_of : PlanView → ℕ → Roles
 roles_of p j = record { own = is_own p j; loaded = λ l. loads_lane l (code_of p j) }
