@@ -10,7 +10,7 @@ ghost use Rattle.fv_diagram_runner.specs.Steps.{StandsFor};
 
 use crate::draft::{Draft, input_registers};
 use crate::history::{History, reserve};
-use crate::step::{Change, Step, advance};
+use crate::step::{Change, FrameCode, Step};
 use fv_diagram::{DiagramId, Diagrams, walk};
 use std::alloc::{AllocError, Global};
 use std::marker::Model;
@@ -87,11 +87,13 @@ impl Stepper {
         ensures nothing_given { OnErr result (out.new ≡ out.old) }
     {
         reserve(&mut self.lists, &self.changes)?;
-        advance(
-            &self.steps,
-            &self.sources,
-            &self.changes,
-            &self.outs,
+        let code = FrameCode {
+            steps: &self.steps,
+            sources: &self.sources,
+            changes: &self.changes,
+            outs: &self.outs,
+        };
+        code.advance(
             controls,
             frame,
             &mut self.cells,
