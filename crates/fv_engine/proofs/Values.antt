@@ -32,7 +32,7 @@ use Rattle.fv_engine.specs.inner.Plans.{NamesThere, held_by, block_from}
 use Rattle.fv_engine.specs.Stands.{EngineView, StandsFor, AreBegun, AreGiven}
 use Rattle.fv_engine.specs.Past.{past}
 
--- a number of a frame behind others
+-- a number of a frame after others
 row_at : (X : List Frame) (channels n : ℕ) (input : List ℤ) (i t : ℕ) → i < channels → t < n
     → column (X ++ rows channels n input) i (length X + t) ≡ argument input (t * channels + i)
 row_at X channels n input i t l m =
@@ -85,11 +85,11 @@ written_alike g X Y c d n e (signal.Write t w x r) =
 abbrev pub block_in : EngineView → (frames : ℕ) → (controls input : List ℤ) → Block
 block_in e n controls input = block_from e.plan e.vector n e.channels (held_by e.plan controls) input
 
--- what is heard of n more frames behind X
+-- what is heard of n more frames after X
 abbrev pub heard : EngineView → List Frame → (frames : ℕ) → List ℤ → List Frame
 heard e X n input = X ++ rows e.channels n input
 
--- a block under these controls may go on behind the frames X of a graph
+-- a block under these controls may go on after the frames X of a graph
 pub record GoesBehind (e : EngineView) (n : ℕ) (controls : List ℤ) (g : Graph) (X : List Frame) (c : ℕ → Stream) : Type 0 where
   pub plan : PlanStands g e.plan
   pub names : NamesThere e.plan e.channels (length controls)

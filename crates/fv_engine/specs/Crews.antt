@@ -7,8 +7,8 @@ use Rattle.fv_engine_codes.specs.Cells.{ArePlaced}
 use Rattle.fv_engine_codes.specs.Codes.{AreLocalCodes, AreLaneCounts}
 use Rattle.fv_engine.specs.declared.crew_codes.CrewCodes.{CrewCodes}
 
--- the codes of the plan's loops over the lanes that they see, how many these are, the cells' places in their loops, and a worker, and no
--- more than a run may ask for
+-- What several workers keep of a plan: the codes of its loops over the lanes that they see, how many these are, and the cells'
+-- places in their loops. There is at least one worker, and at most as many as a run may ask for.
 pub record IsCrewOf (p : PlanView) (g : Tasks) (c : CrewCodes) : Type 0 where
   pub codes : AreLocalCodes p g c.codes.items
   pub counts : AreLaneCounts p g c.counts.items

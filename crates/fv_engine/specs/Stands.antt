@@ -15,8 +15,8 @@ use Rattle.fv_split_plan.specs.headline.View.{PlanView, lane_info}
 use Rattle.fv_split_plan.specs.headline.Plans.{PlanStands, IsPlanOf}
 use Rattle.fv_engine.specs.Past.{past}
 
--- What an engine keeps: its plan and sizes, the memory of its one region, the lengths of the lanes' parts there, the place in its
--- part where each lane's history starts, and the items of each of the plan's cells.
+-- What an engine keeps: its plan and sizes, the memory of its one region, and the lengths of the lanes' parts there. Then the place
+-- in its part where each lane's history starts, and the items of each of the plan's cells.
 pub record EngineView : Type 0 where
   pub plan : PlanView
   pub channels : ℕ
@@ -28,7 +28,7 @@ pub record EngineView : Type 0 where
   pub starts : List ℕ
   pub cells : List (List ℤ)
 
--- Each lane has a part, of the length for its history and a block of so many frames.
+-- Each lane has a part, of the length for its history and a block of N frames.
 pub record HaveLengths (p : PlanView) (block : ℕ) (lengths : List ℕ) : Type 0 where
   pub count : length lengths ≡ length p.lanes
   pub each : (l : ℕ) → l < length p.lanes → IsLaneLength (lane_info p l).history block (slice_index lengths l)
@@ -42,8 +42,8 @@ StartsIn h n start = (h ≤ copied_history → start + h ≤ n) × (copied_histo
 abbrev pub history_in : EngineView → ℕ → List ℤ
 history_in e l = take (lane_info e.plan l).history (from_start (slice_index e.starts l) (part e.lengths l e.region))
 
--- What the region holds of each lane is what its signal was at the latest samples of X, and the items of cells are what their table
--- has become after all its writes there.
+-- What the region holds of each lane is what its signal was at the latest samples of X. The items of cells are what their table has
+-- become after all its writes there.
 pub record StandsFor (e : EngineView) (g : Graph) (names : Names) (X : List Frame) (c : ℕ → Stream) : Type 0 where
   pub histories : (l : ℕ) → l < length e.plan.lanes → history_in e l ≡ past (lane_info e.plan l).history (value g (names.lane l) X c) (length X)
   pub cells : (k : ℕ) → k < length e.plan.cells → list_at e.cells k ≡ written_by g X c (node g (names.cells k)) (length X)
@@ -57,7 +57,7 @@ abbrev pub AreGiven : (controls : List ℤ) → (c : ℕ → Stream) → (t n : 
 AreGiven controls c t n = (k u : ℕ) → k < length controls → u < n → c k (t + u) ≡ argument controls k
 
 -- The next frames: for all frames X and controls c for which the engine stood, where c has the given numbers in the block, the
--- output is that of X and the input behind it, and the engine then stands for both together.
+-- output is that of X and the input after it, and the engine then stands for both together.
 abbrev pub GoesOn : (old new : EngineView) → (frames : ℕ) → (input controls output : List ℤ) → Type 0
 GoesOn old new frames input controls output =
     (g : Graph) (s : PlanStands g old.plan) (X : List Frame) (c : ℕ → Stream) → StandsFor old g s.names X c → AreGiven controls c (length X) frames →
@@ -92,7 +92,7 @@ pub record AreBegun (e : EngineView) (n : ℕ) (s : State) : Type 0 where
   pub tables : s.tables ≡ e.plan.tables
   pub cells : s.cells ≡ e.cells
 
--- the places as it ends: what the region then holds of each lane is what lies behind so many samples, and the cells have their items
+-- the places as it ends: what the region then holds of each lane is what lies after N samples, and the cells have their items
 pub record AreEnded (e : EngineView) (n : ℕ) (s : State) : Type 0 where
   pub items : (l : ℕ) → l < length e.plan.lanes → history_in e l ≡ drop n (lane_of s.lanes l).items
   pub cells : s.cells ≡ e.cells

@@ -38,8 +38,8 @@ pub record HasSizes (p : PlanView) (channels block vector : ℕ) : Type 0 where
   pub channels_high : channels ≤ MOST_CHANNELS
   pub inputs : (j i : ℕ) → NamesInput (code_of p j) i → i < channels
 
--- all of it: the lanes have the plan's shapes, there is a list for each of its cells, the tasks are of its loops, as are a crew's
--- codes, the crew has as many workers as were asked for, and the engine stands for some frames
+-- All that an engine stores fits together. The lanes have the plan's shapes, and there is a list for each of its cells. The tasks
+-- are of its loops, as are a crew's codes, and the crew has as many workers as were asked for. The engine stands for some frames.
 pub record IsStored (e : Inside) : Type 0 where
   pub sizes : HasSizes e.plan e.sizes.channels e.sizes.block e.sizes.vector
   pub shapes : AreShapes e.plan e.sizes.block e.lanes.shapes.items

@@ -16,8 +16,8 @@ use fv_engine_tasks::{Codes, Job, copy_outputs, run_tasks};
 use fv_outside::Gate;
 use fv_split_plan::Plan;
 
-/// Runs a block's tasks over these lanes, the plan's tables and the lists of its cells, one after another, and copies the lanes of the
-/// outputs.
+/// Runs a block's tasks one after another, over these lanes, the plan's tables and the lists of its cells. Then copies the lanes of
+/// the outputs.
 pub(crate) fn alone<P: Codes, L: LaneStore, G: Gate>(
     job: &Job<'_, '_, '_, P>,
     plan: &Plan,

@@ -14,15 +14,16 @@ use std::alloc::{AllocError, Global};
 // How many bytes a list has that the C library takes from the system by itself, and gives back at once.
 const OWN_PAGES: usize = 16 * 1024 * 1024;
 
-// A block of several workers takes its lists from the heap and gives them back when it ends. glibc hands the free end of its heap to the
-// system where that is longer than 128 KiB, so each block would ask for its pages again, and that took a quarter of what the calling thread
-// does alone. Once a list that had pages of its own is let go, it hands over only what is longer than two such lists. Where this list is
-// refused, or another C library is at work, all goes on as before.
+// Has the C library keep its pages. A block of several workers takes its lists from the heap and frees them when it ends. glibc
+// hands the free end of its heap to the system where that is longer than 128 KiB. So each block would ask for its pages again, and
+// that took a quarter of the calling thread's time. Once a list that had pages of its own was dropped, glibc keeps up to twice as
+// much. Where this list is refused, or another C library is at work, all goes on as before.
 fn keep_pages(alloc: Global) {
     let _ = Vec::<u8>::with_capacity(alloc, OWN_PAGES);
 }
 
-/// What so many workers need of a plan. One worker, and a plan of one loop, of which no two tasks can run at once, need nothing.
+/// What `workers` workers need of a plan. One worker needs nothing. Neither does a plan of one loop, since no two of its tasks can
+/// run at once.
 pub(crate) fn crew_for(
     alloc: Global,
     plan: &Plan,

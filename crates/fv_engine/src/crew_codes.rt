@@ -3,8 +3,8 @@
 use fv_engine_codes::{CellPlaces, LaneCount};
 use fv_loopcode_machine::Code;
 
-/// The code of each loop over the lanes that it sees, how many these are, where each of the cells stands among those of its loop, and how
-/// many workers run a block.
+/// What several workers keep of a plan. By loop: its code over the lanes that it sees, and how many these are. By cells: the place
+/// among those of its loop. And how many workers run a block.
 #[derive(Drop)]
 pub(crate) struct CrewCodes {
     pub(crate) codes: Vec<Code>,

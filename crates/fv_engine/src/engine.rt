@@ -55,13 +55,17 @@ fn is_alone(workers: u32, spread: bool) -> bool
 /// A plan that runs, block by block. All its lanes lie in one region, and each of its cells has a list.
 #[derive(Drop)]
 pub struct Engine {
+    // The plan that runs.
     plan: Plan,
+    // How large its blocks, vectors and frames may be, and how many workers are asked for.
     sizes: Sizes,
+    // The lanes and the lists of cells, which hold what the engine stands for.
     lanes: Lanes,
-    // the held values of the block
+    // The held values of the block, by their numbers.
     held: Vec<i32>,
+    // The tasks of a block, and what runs them.
     runner: TaskRunner,
-    // where several workers run the blocks
+    // What several workers keep of the plan, where several run the blocks.
     crew: Option<CrewCodes>,
 }
 
@@ -78,8 +82,8 @@ impl Model for Engine {
 }
 
 impl Engine {
-    /// An engine of this plan for blocks of at most `block` frames of `channels` numbers, cut in vectors of `vector` frames, by so many
-    /// workers. It takes all the memory without which its blocks cannot run.
+    /// An engine of this plan, by `workers` workers. A block has at most `block` frames of `channels` numbers, and is cut in
+    /// vectors of `vector` frames. It takes all the memory without which its blocks cannot run.
     pub fn prepare(
         alloc: Global,
         plan: Plan,

@@ -9,8 +9,8 @@ use fv_lines::item;
 use fv_loopcode::{Store, run, still_code_is_free};
 use fv_split_plan::Plan;
 
-// The tables of a plan, one lane of one sample, and cells of one item. The code of held values neither loads, appends nor writes, so nobody
-// looks at the lane and the cells.
+// A store with the tables of a plan, one lane of one sample, and cells of one item. The code of held values neither loads, appends
+// nor writes, so it reads nothing but the tables.
 #[derive(Drop)]
 struct OneSample<'p> {
     plan: &'p Plan,
@@ -57,6 +57,7 @@ pub(crate) fn hold(plan: &Plan, controls: &[i32], held: &mut [i32])
     requires controls { (k : ℕ) → NamesHeld plan.now.held k → k < length controls.now }
     ensures { held.new ≡ held_by plan.now controls.now }
 {
+    // For the prover: code that loads, appends and writes nothing may run over any state with the same tables.
     still_code_is_free();
     let mut store = OneSample {
         plan,

@@ -18,15 +18,20 @@ use std::marker::Sync;
 use std::sync::Wait;
 use std::thread::Threads;
 
-/// The lanes: the region that they lie in, where each of them lies, its shape and where its history starts, and a record of each for
-/// one worker that runs a block. Beside them a list for each of the plan's cells.
+/// The lanes of an engine, and the lists of its plan's cells.
 #[derive(Drop)]
 pub(crate) struct Lanes {
+    // The region that all lanes lie in.
     pub(crate) region: Region,
+    // Where the part of each lane lies in the region.
     pub(crate) layout: Layout,
+    // By lane: its shape.
     pub(crate) shapes: Vec<LaneShape>,
+    // By lane: where its history starts in its part.
     pub(crate) states: Vec<LaneState>,
+    // By lane: a record for the one worker that runs a block alone.
     pub(crate) begun: Vec<BegunLane>,
+    // By cells: the items.
     pub(crate) lists: Vec<Vec<i32>>,
     ghost entries: { AreLists layout shapes.items states.items begun.items (cells_of region) },
     ghost held: { AreHeld layout shapes.items states.items },

@@ -21,7 +21,7 @@ use fv_pool::{Layout, Region};
 use fv_split_plan::Plan;
 use std::alloc::{AllocError, Global};
 
-/// How many vectors so many frames are.
+/// How many vectors of `vector` frames a block of `frames` frames has.
 pub(crate) fn vectors(frames: u32, vector: u32) -> u32
     requires some { 1 ≤ frames }
     requires vector { 1 ≤ vector }
@@ -31,7 +31,7 @@ pub(crate) fn vectors(frames: u32, vector: u32) -> u32
     ((u64::from(frames) + (u64::from(vector) - 1)) / u64::from(vector)) as u32
 }
 
-/// The shape of each lane, for blocks of so many frames.
+/// The shape of each lane, for blocks of at most `block` frames.
 pub(crate) fn shapes(alloc: Global, plan: &Plan, block: u32) -> Result<Vec<LaneShape>, AllocError>
     requires block { (1 ≤ block) × (block ≤ MOST_BLOCK) }
     requires histories { (l : ℕ) → l < length plan.now.lanes → (lane_info plan.now l).history ≤ DELAY_BUDGET }
@@ -56,7 +56,7 @@ pub(crate) fn lengths(alloc: Global, shapes: &[LaneShape]) -> Result<Vec<u64>, A
     Ok(lengths)
 }
 
-/// Whether a region can have so many cells in all. There is none of 2^63 cells or more.
+/// Whether a region can have parts of these lengths. There is none of 2^63 cells or more.
 pub(crate) fn can_be_had(lengths: &[u64]) -> bool
     ensures { result ≡ true → sum lengths.now < 2 ^ 63 }
 {
@@ -124,7 +124,7 @@ pub(crate) fn blank_lanes(alloc: Global, plan: &Plan, block: u32) -> Result<Lane
     })
 }
 
-/// What runs the tasks of a plan, for so many vectors.
+/// What runs the tasks of a plan, for blocks of at most `most` vectors.
 pub(crate) fn runner_for(alloc: Global, plan: &Plan, most: u32) -> Result<TaskRunner, AllocError>
     requires some_loop { 0 < plan.now.loops }
     requires some_vector { 0 < most }

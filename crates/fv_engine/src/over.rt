@@ -16,8 +16,8 @@ use fv_outside::Gate;
 use fv_pool::Layout;
 use fv_split_plan::Plan;
 
-/// Runs a block's tasks over the lanes in these cells, the plan's tables and these lists of its cells, one after another, and copies
-/// the lanes of the outputs.
+/// Runs a block's tasks one after another, over the lanes in these cells, the plan's tables and these lists of its cells. Then
+/// copies the lanes of the outputs.
 pub(crate) fn over<P: Codes, G: Gate>(
     job: &Job<'_, '_, '_, P>,
     plan: &Plan,

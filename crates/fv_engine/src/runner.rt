@@ -8,14 +8,18 @@ use fv_graph::{Core, Tasks};
 use fv_loopcode_machine::{Scratch, unsettle};
 use fv_outside::Line;
 
-/// What runs the tasks: the tasks of the block, the core for one worker, the scratch that each loop's code works in, that which several
-/// workers keep from block to block, and the block's journal.
+/// What runs the tasks of a plan.
 #[derive(Drop)]
 pub(crate) struct TaskRunner {
+    // The tasks of the block.
     pub(crate) tasks: Tasks,
+    // Which task may run next, for one worker.
     pub(crate) core: Core,
+    // By loop: what its code works in, for one worker.
     pub(crate) scratch: Vec<Scratch>,
+    // What the codes of several workers work in, kept from block to block.
     pub(crate) kept: Vec<Scratch>,
+    // The block's journal.
     pub(crate) lines: Vec<Line>,
     ghost core_is: { HasCore tasks core },
     ghost room: { task_count (record tasks.tasks { vectors = tasks.most }) ≤ vec_capacity lines },
@@ -27,7 +31,7 @@ impl TaskRunner {
     ghost use Rattle.fv_graph.specs.Core.{opening};
     ghost use Rattle.fv_loopcode_machine.specs.Scratches.{AreUnsettled};
 
-    /// The tasks are those of so many vectors from now on, and no line is written of them.
+    /// Sets the number of vectors of the block, and clears the journal.
     pub(crate) fn set_vectors(&mut self, vectors: u32)
         requires some { 0 < vectors }
         requires room { vectors ≤ self.old.tasks.most }
@@ -39,7 +43,7 @@ impl TaskRunner {
         self.lines.clear();
     }
 
-    /// The core is about to run the tasks from the first on, and no scratch is settled.
+    /// Has the core begin with the first task again, and no scratch settled.
     pub(crate) fn begin(&mut self)
         ensures tasks { self.new.tasks ≡ self.old.tasks }
         ensures same { self.new.core.tasks ≡ self.new.tasks.tasks }

@@ -1,6 +1,7 @@
 // The sizes of an engine.
 
-/// How many numbers a frame of the input has, how many workers are asked for, and how many frames a block and a vector have at most.
+/// The sizes of an engine: how many numbers a frame of the input has, and how many workers are asked for. Then how many frames a
+/// block and a vector have at most.
 #[derive(Clone, Copy)]
 pub(crate) struct Sizes {
     pub(crate) channels: u32,

@@ -25,7 +25,7 @@ module _ (r : Roles) (f : Content) (place : ℕ → ℕ) (locals : List ℕ) (ow
   abbrev own_of : Roles
   own_of = roles_over r own (length locals)
 
-  -- the number so far back, by the new number
+  -- the number at a distance back, by the new number
   same_number : (l b : ℕ) → IsNamed r l → there.load (place l) b ≡ here.load l b
   same_number l b t = ap (λ (m : ℕ). number_at f index m b) (p.back l t)
 

@@ -43,7 +43,7 @@ fn renumber_all(alloc: Global, steps: &[Step], places: &[u64]) -> Result<Vec<Ste
         .collect(alloc)
 }
 
-/// A loop's code where each lane that it loads or appends has a new number, of so many. Other lanes may have any.
+/// A loop's code where each lane that it loads or appends has its new number from `places`. Other lanes may have any number there.
 pub fn local_code(
     alloc: Global,
     code: &Code,

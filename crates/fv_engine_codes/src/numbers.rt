@@ -27,7 +27,7 @@ fn source_at(reads: &[Reads], pair: u64) -> u64
     reads[pair as usize].source
 }
 
-// Each of these lanes gets its place among them as its new number, behind so many that have theirs. Returns how many then have.
+// Numbers these lanes in order, from `from` on. Returns the number that the next lane gets.
 fn number(lanes: &[u64], from: u64, places: &mut [u64]) -> u64
     requires there { All (λ l. l < length places.old) lanes.now }
     requires fits { from + length lanes.now ≤ length places.old }

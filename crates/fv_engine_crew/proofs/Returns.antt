@@ -61,7 +61,7 @@ popped k lanes l v ws w a =
           (get_or-append_seam lanes l [] 0) (a.each (length lanes) w (omega (arith, long))));
     }
 
--- the writer of lane n before those of the lanes behind it
+-- the writer of lane n before those of the lanes after it
 one_before : (k : Start) (v n : ℕ) (w : LaneWriter) (ws : List LaneWriter) → IsWriterOf k n v w
     → ((i : ℕ) (d : LaneWriter) → i < length ws → IsWriterOf k (n + 1 + i) v (get_or ws i d))
     → (i : ℕ) (d : LaneWriter) → i < length (w ∷ ws) → IsWriterOf k (n + i) v (get_or (w ∷ ws) i d)

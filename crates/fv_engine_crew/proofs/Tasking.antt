@@ -55,7 +55,7 @@ before_of k j v ws ss cs a b c =
       cells = c.holds;
     }
 
--- what was written is what a writer's list has behind its history
+-- what was written is what a writer's list has after its history
 written_is : (w : LaneWriter) (h n : ℕ) → (shape_of w).history ≡ h → length (lane_open w).items ≡ h + n → written_by w ≡ n
 written_is w h n e just = omega (arith, e, just, w.count.0, length-append w.high.front.now w.low.front.now)
 

@@ -57,13 +57,13 @@ block_of k = record {
   input = k.input.now;
 }
 
--- what the block's codes obey, and what goes on from what the places hold as the block begins: so it is what the plan's code leaves there,
--- where all tasks run one after another in task order
+-- The content of a block: the block's codes obey it, and the places hold it as the block begins. So it is what the plan's code
+-- leaves there when all tasks run one after another in task order.
 pub record IsContentOf (k : Start) (f : Content) : Type 0 where
   pub obeys : ObeysBlock (block_of k) f
   pub begins : HoldUpTo (block_of k) f none_done (first_of k)
 
--- there is such a content
+-- a block's content is there: something that its codes obey and that the places hold as it begins
 abbrev pub IsRealStart : Start → Type 0
 IsRealStart k = IsReal (block_of k) (first_of k)
 
@@ -111,7 +111,7 @@ lanes_seen (many.Many ss) = ss.items
 abbrev pub list_room : ℕ → ℕ
 list_room n = if nat_lt n 3 then 0 else n
 
--- empty lists, with room for so many
+-- empty lists, with room for N
 pub record AreRoomy (lists : List (Vec SeenLane)) (room : ℕ) : Type 0 where
   pub empty : (i : ℕ) (d : Vec SeenLane) → i < length lists → (slice_index_or lists i d).items ≡ []
   pub roomy : (i : ℕ) (d : Vec SeenLane) → i < length lists → room ≤ vec_capacity (slice_index_or lists i d)
@@ -126,7 +126,7 @@ pub record AreCellsOf (k : Start) (j v : ℕ) (c : LoopCells) : Type 0 where
   pub holds : (f : Content) → IsContentOf k f → (i : ℕ) → i < length k.plan.now.cells → (cells_info k.plan.now i).owner ≡ j
       → list_at (cells_of c) i ≡ f.cells i (upto k v)
 
--- What loop j hands on after v of its vectors, with so many lists more than the readers of its later vectors take: its writers and cells,
+-- What loop j hands on after v of its vectors, with N lists more than the readers of its later vectors take: its writers and cells,
 -- room for the seen lanes of its sources, scratch for its code, and the lists.
 pub record AreHandedOn (k : Start) (j v more : ℕ) (w : Writers) : Type 0 where
   pub writers : AreWritersOf k (own_lanes k.plan.now j) v w.lanes.own.items

@@ -11,8 +11,8 @@ use Rattle.fv_engine_codes.specs.declared.loop_cells.LoopCells.{LoopCells}
 use Rattle.fv_engine_crew.specs.Contents.{list_room, AreRoomy}
 use Rattle.fv_engine_crew.specs.declared.content.Writers.{Writers}
 
--- Empty lists of one loop: room for so many lanes of its own and so many seen ones, scratch for so many steps, and so many lists, each
--- with room for the lanes of its own where they go in a list.
+-- Empty lists of one loop: room for `own` lanes of its own and for `seen` seen ones, and scratch for `steps` steps. Then `lists`
+-- lists, each with room for the lanes of its own where they go in a list.
 pub record IsRoom (own seen steps lists : ℕ) (w : Writers) : Type 0 where
   pub nothing : w.lanes.own.items ≡ []
   pub own_room : own ≤ vec_capacity w.lanes.own
@@ -29,8 +29,8 @@ pub record HasCells (p : PlanView) (places : CellPlaces) (j : ℕ) (c : LoopCell
   pub loop_no : c.loop_no ≡ j
   pub count : length c.lists.items ≡ slice_index places.counts.items j
 
--- the lists of each loop: for its lanes and those of the loops that it reads, for the steps of its code, for each vector as many as loops
--- read it, and for its cells
+-- The lists of each loop: for its lanes and those of the loops that it reads, for the steps of its code, and for its cells. For
+-- each vector there are as many as loops read it.
 pub record AreRooms (p : PlanView) (g : Tasks) (places : CellPlaces) (ws : List (Box Writers)) : Type 0 where
   pub count : length ws ≡ p.loops
   pub each : (j : ℕ) (d : Box Writers) → j < p.loops

@@ -31,8 +31,8 @@ block_in b = record {
   input = b.input.now;
 }
 
--- The tasks are the block's, with the code of each loop over the lanes that it sees and how many these are. All cells have places, each
--- lane has a shape, the outputs name lanes, and there is a worker, and no more than a run may ask for.
+-- The tasks are the block's, with the code of each loop over the lanes that it sees and how many these are. All cells have places,
+-- each lane has a shape, and the outputs name lanes. There is at least one worker, and at most as many as a run may ask for.
 pub record IsSpread (b : SpreadBlock) : Type 0 where
   pub job : IsJob (block_in b) (tasks_of b)
   pub codes : AreLocalCodes b.plan.now (tasks_of b) b.codes.now
@@ -51,8 +51,8 @@ opening_of b states cells lists = record {
   cells = lists_of lists;
 }
 
--- The cells and the states hold each lane's history, with room for the block, the plan's cells have lists, and the block's codes go on from
--- these.
+-- The cells and the states hold each lane's history, with room for the block. The plan's cells have lists, and the block's codes go
+-- on from these.
 pub record MayRunOver (b : SpreadBlock) (states : List LaneState) (cells : List ℤ) (lists : List (Vec ℤ Global)) : Type 0 where
   pub count : length states ≡ length b.shapes.now
   pub room : sum (lengths_by b.shapes.now) ≤ length cells

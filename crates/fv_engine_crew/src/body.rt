@@ -91,6 +91,8 @@ impl<'a, 'b> LoopBody<'a, 'b> {
         ensures scratch { Serves (slice_index_or self.now.codes.now task.loop_no []) (argument self.now.start.held.now) writers.new.scratch }
         ensures lists { writers.new.lists ≡ writers.old.lists }
     {
+        // For the prover: where the lanes hold what they are to hold, the task may run; and the code obeys with its lanes' new
+        // numbers too.
         tasks_are_done();
         renumbered_code_obeys();
         let code = self.code(task.loop_no);

@@ -10,18 +10,23 @@ use fv_lines::LaneWriter;
 use fv_loopcode_machine::Scratch;
 use std::alloc::{AllocError, Global};
 
-/// The lists of each loop, and those for the lanes as they begin, for the parcels with which the loops begin, for the lists of the
-/// loops as they come back, and for the lanes as they come back.
+/// All lists that a block works in, taken before any lane is begun. Those that the block fills have room for all that comes into
+/// them.
 #[derive(Drop)]
 pub(crate) struct Buffers<'a, 'b> {
+    // By loop: its lists and its scratch.
     pub(crate) rooms: Vec<Box<Writers<'a, 'b>>>,
+    // The lanes as they begin, lane by lane.
     pub(crate) begun: Vec<LaneWriter<'a>>,
+    // The parcels with which the loops begin, loop by loop.
     pub(crate) entries: Vec<LoopParcel<'a, 'b>>,
+    // The lists of the loops as they come back, loop by loop.
     pub(crate) emptied: Vec<Box<Writers<'a, 'b>>>,
+    // The lanes as they come back, lane by lane.
     pub(crate) back: Vec<LaneWriter<'a>>,
 }
 
-/// Takes them.
+/// Takes all lists that a block works in. The scratch of `kept` is used where it fits.
 pub(crate) fn take_buffers<'a, 'b>(
     alloc: Global,
     block: &SpreadBlock<'b>,

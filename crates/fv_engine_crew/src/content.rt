@@ -7,8 +7,9 @@ use fv_engine_codes::LoopLanes;
 use fv_lines::Seen;
 use fv_loopcode_machine::Scratch;
 
-/// What a loop's task hands to the loop's next task: its lane writers and cells, the scratch that its code works in, and, still empty, a
-/// list for each seen parcel that is to come, which has room only where more than two lanes go into it.
+/// What a loop's task hands to the loop's next task: its lane writers and cells, and the scratch that its code works in. Beside
+/// them it has an empty list for each parcel of seen lanes that is to come. Such a list has room only where more than two lanes go
+/// into it.
 #[derive(Drop)]
 pub struct Writers<'a, 'b> {
     pub lanes: LoopLanes<'a, 'b>,
@@ -25,7 +26,7 @@ pub enum SeenLanes<'a> {
 }
 
 impl<'a> SeenLanes<'a> {
-    /// Puts them behind those of a list that has room for them.
+    /// Appends these lanes to a list that has room for them.
     pub(crate) fn append_to(&self, list: &mut Vec<Seen<'a>>)
         requires { length list.old.items + length (lanes_seen self.now) ≤ vec_capacity list.old }
         ensures items { list.new.items ≡ list.old.items ++ lanes_seen self.now }

@@ -32,6 +32,7 @@ pub(crate) fn enter<'a, 'b>(
     ensures entries { AreParcelsFrom (λ (p : LoopParcel). p.edge) (λ (p : LoopParcel). p.start.value) result.0.start 0 (tasks_of block.now).loops
         result.1.items }
 {
+    // For the prover: the lists that the lanes are dealt to are those with which the loops enter.
     dealt_rooms_enter();
     let start = Start {
         plan: block.plan,

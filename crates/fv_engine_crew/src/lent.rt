@@ -18,17 +18,24 @@ use std::marker::Sync;
 use std::sync::Wait;
 use std::thread::Threads;
 
-/// What a crew is handed beside the cells of the region, the lists of the plan's cells and what is kept among it, and whether it ran the
-/// block.
+/// What a crew is handed beside the cells of the region, and whether it ran the block.
 #[derive(Drop)]
 pub(crate) struct Pack<'p, 'b, 's, 'l, 'o> {
+    // Where the lists of the block take their memory.
     pub(crate) alloc: Global,
+    // What the block is of.
     pub(crate) block: &'p SpreadBlock<'b>,
+    // By lane: where its history starts in its part.
     pub(crate) states: &'s mut [LaneState],
+    // The block's journal.
     pub(crate) lines: &'l mut Vec<Line>,
+    // The output: a number for each of the plan's outputs, one frame after another.
     pub(crate) output: &'o mut [i32],
+    // By cells: the items.
     pub(crate) lists: &'o mut Vec<Vec<i32>>,
+    // What the codes work in, kept from block to block.
     pub(crate) kept: &'o mut Vec<Scratch>,
+    // Whether the crew ran the block.
     pub(crate) ran: bool,
 }
 

@@ -55,7 +55,7 @@ impl<'a, 'b> LoopParcel<'a, 'b> {
         content
     }
 
-    /// The same, while it is kept.
+    /// What it holds, while the parcel is kept.
     pub(crate) fn content(&self) -> &Content<'a, 'b>
         ensures { IsContent self.now.start.value self.now.edge result.now }
     {

@@ -18,7 +18,7 @@ use fv_loopcode_machine::Scratch;
 use fv_split_plan::Plan;
 use std::alloc::{AllocError, Global};
 
-// Empty lists, each with room for so many seen lanes.
+// `count` empty lists, each with room for `room` seen lanes.
 fn seen_lists<'a>(alloc: Global, count: u64, room: u64) -> Result<Vec<Vec<Seen<'a>>>, AllocError>
     ensures count { IfOk result (λ v. vec_len v ≡ count) }
     ensures roomy { IfOk result (λ v. AreRoomy v.items room) }
@@ -48,7 +48,7 @@ fn count_readers(tasks: &Tasks, loop_no: u64) -> u64
     (tasks.outward(loop_no).len() - 1) as u64
 }
 
-// So many empty lists.
+// `count` empty lists.
 fn empty_lists(alloc: Global, count: u64) -> Result<Vec<Vec<i32>>, AllocError>
     ensures { IfOk result (λ v. vec_len v ≡ count) }
 {

@@ -18,7 +18,8 @@ pub(crate) fn times(a: u64, b: u64) -> Result<u64, AllocError>
     }
 }
 
-// Scratch for so many steps: the last that was kept, if it is for as many, or else new. The held values may be others now.
+// Scratch for `steps` steps: the last that was kept, if it is for as many, or else new. It is not settled, since the held values
+// may be others now.
 pub(crate) fn scratch_for(
     alloc: Global,
     kept: &mut Vec<Scratch>,

@@ -19,9 +19,9 @@ use std::marker::Sync;
 use std::sync::Wait;
 use std::thread::Threads;
 
-/// Runs the tasks of a block by so many workers side by side, over the lanes in these cells and the lists of the plan's own, and copies the
-/// lanes of the outputs. Where memory is refused no task runs, each lane keeps the history that it held, each list stays, and the answer is
-/// false. What the codes work in is taken from `kept`, and is put there again for the next block.
+/// Runs the tasks of a block by its workers side by side, and copies the lanes of the outputs. `cells` has the lanes, and `lists`
+/// the plan's cells. What the codes work in is taken from `kept`, and is put there again for the next block. Where memory is
+/// refused no task runs: each lane keeps the history that it held, each list stays, and the answer is false.
 pub fn run_spread<R: Threads + Wait + Sync, G: Gate + Sync>(
     rt: &R,
     alloc: Global,
@@ -41,7 +41,7 @@ pub fn run_spread<R: Threads + Wait + Sync, G: Gate + Sync>(
     requires output { length output.old ≡ block.now.frames * length block.now.plan.now.outputs }
     ensures ran { result ≡ true → Ran (tasks_of block.now) (block_in block.now) (lengths_by block.now.shapes.now) block.now.shapes.now
         (opening_of block.now states.old cells.old lists.old.items) cells.new states.new lists.new.items lines.new.items block.now.plan.now.outputs output.new }
-    // Each task was run by one of so many workers.
+    // Each task was run by one of the block's workers.
     ensures who { result ≡ true → All (λ (line : Line). line.worker < block.now.workers) lines.new.items }
     ensures left { result ≡ false → HoldAsBefore block.now.shapes.now states.old cells.old states.new cells.new }
     ensures lists_left { result ≡ false → lists_of lists.new.items ≡ lists_of lists.old.items }

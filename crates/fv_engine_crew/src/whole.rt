@@ -16,7 +16,7 @@ use fv_lines::{LaneState, LaneWriter, end_lanes};
 use fv_pool::Ended;
 use std::alloc::Global;
 
-/// Copies the lanes of the outputs, and ends all lanes. `rest` is how the loan of the cells behind them ended.
+/// Copies the lanes of the outputs, and ends all lanes. `rest` is how the loan of the cells ended that come after the lanes.
 pub(crate) fn end_whole<'a>(
     alloc: Global,
     block: &SpreadBlock<'_>,

@@ -10,7 +10,7 @@ use Rattle.fv_control.specs.Laws.{NeverFall, NoneBetween}
 use Rattle.fv_engine_render.specs.headline.Blocks.{AreBlocks, block_at, to_change}
 use Rattle.fv_engine_render.specs.Blocks.{AreNext}
 
--- the bound behind a change: the way to it, where it is ahead and nearer
+-- the bound after a change: the way to it, where it is ahead and nearer
 abbrev nearer : Change → (f most : ℕ) → ℕ
 nearer c f most = if nat_lt f c.frame then min most (c.frame - f) else most
 
@@ -39,7 +39,7 @@ come_gone [] f (suc n) most h = refl
 come_gone (c ∷ cs) f (suc n) most h =
     ap (to_change cs f) (nearer_come c f most h.0) ∙ come_gone cs f n most h.1
 
--- the changes behind a place never fall
+-- the changes after a place never fall
 pub order_behind : (cs : List Change) (least n : ℕ) → NeverFall least cs → (low : ℕ) × NeverFall low (drop n cs)
 order_behind cs least zero h = (least, h)
 order_behind [] least (suc n) h = (0, tt)

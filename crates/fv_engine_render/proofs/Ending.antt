@@ -298,7 +298,7 @@ module _ {d : Diagram} {t : Files} (p : Plays d t) (c : ℕ → Stream) (a : Des
           );
         })
       where
-        -- a part of what is said behind w
+        -- a part of what is said after w
         said_part : (w more : List ℤ) (q : List ℕ) → IsPrefixOf q (flat_map (sample_bytes t.head.coding t.head.bits) more)
             → IsPrefixOf (front t w ++ q) (front t (w ++ more))
         said_part w more q g =

@@ -37,7 +37,7 @@ rows_take w f xs = cells_same f w _ _ (λ t i l m. sym (get_or-take (f * w) xs (
 pub rows_alike : (w f : ℕ) (xs ys : List ℤ) → take (f * w) xs ≡ take (f * w) ys → rows w f xs ≡ rows w f ys
 rows_alike w f xs ys e = rows_take w f xs ∙ ap (rows w f) e ∙ sym (rows_take w f ys)
 
--- rows, and those behind them
+-- rows, and those after them
 rows_add : (w f n : ℕ) (xs : List ℤ) → rows w (f + n) xs ≡ rows w f xs ++ rows w n (take (n * w) (drop (f * w) xs))
 rows_add w f n xs =
     let rest = drop (f * w) xs in

@@ -38,7 +38,7 @@ stops_first e s changes initial told Stopped stopped = record {
   stopped = stopped;
 }
 
--- behind some of them
+-- after some of them
 pub stops : {b : Start} {r : Come} → Streamed b r → b.outputs ≡ length b.engine.plan.outputs → (Stopped : (heard said : List ℤ) → Act → Type 0)
     (said : List ℤ) (act : Act) → IsAct b.sizes.block b.sizes.frames b.changes r.frame said r.all act → Stopped r.heard said act
     → HasStopped b.engine b.sizes b.changes b.initial b.told r.told Stopped

@@ -34,17 +34,17 @@ frames_at None held stated left = table stated (λ t. [])
 frames_at (Some i) None stated left = frames_in i.coding (bare i) left
 frames_at (Some i) (Some bytes) stated left = frames_in i.coding (bare i) bytes
 
--- those of the files of a tape, where so much is left of the input
+-- the frames of the input of a tape's files, where these bytes are left of it
 abbrev pub frames_of : Files → (left : List ℕ) → List Frame
 frames_of t left = frames_at t.input t.held t.stated left
 
--- so many frames were taken of the bytes that were left
+-- this many frames were taken of the bytes that were left of an input
 abbrev pub AreTakenOf : Option InputSamples → (held : Option (List ℕ)) → (frames : ℕ) → (before after : List ℕ) → Type 0
 AreTakenOf None held n before after = after ≡ before
 AreTakenOf (Some i) None n before after = after ≡ drop (n * frame_size i.channels i.bits) before
 AreTakenOf (Some i) (Some bytes) n before after = after ≡ before
 
--- and of the input of a tape
+-- this many frames were taken of the input of a tape
 abbrev pub HasTaken : Files → (frames : ℕ) → (old new : DeskState) → Type 0
 HasTaken t n old new = AreTakenOf t.input t.held n (old.left Input) (new.left Input)
 
@@ -95,7 +95,7 @@ IsStopFor d c changes s t g old new stop.Write =
     CannotSay (answered d c t old) old new × (IsTrue old.tells → HasTaken t g old new)
     × (KeepsOutput old new ⊎ (IsTrue old.tells → IsPrefixOf (new.written Output) (answered_to d c t g old)))
 
--- A run stopped behind the blocks up to frame g: the output is as it was, and no block ran, or it was begun, and has a part of the
+-- A run stopped after the blocks up to frame g: the output is as it was, and no block ran, or it was begun, and has a part of the
 -- answer from its front.
 pub record StopsAt (d : Diagram) (c : ℕ → Stream) (changes : List Change) (s : RunSizes) (t : Files) (g : ℕ) (old new : DeskState) (e : Stop)
     : Type 0 where

@@ -21,7 +21,7 @@ pub record CanRender (d : Diagram) (controls : List ControlInfo) : Type 0 where
   pub few : inputs d ≤ MOST_CHANNELS
   pub reads : control_bound d ≤ length controls
 
--- A graph of a diagram that can be played, with so many inputs and these controls: the diagram has an output, and all its controls
+-- A graph of a diagram that can be played, with N inputs and these controls: the diagram has an output, and all its controls
 -- are there.
 pub record CanBePlayed (d : Diagram) (g : Graph) (channels : ℕ) (controls : List ControlInfo) : Type 0 where
   pub of : IsGraphOf d (spans_of controls) g

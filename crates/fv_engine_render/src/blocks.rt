@@ -19,7 +19,7 @@ pub(crate) struct PlanSizes {
     pub(crate) outputs: usize,
 }
 
-/// What ran: how many blocks, the loops of the plan, 0 where there was no block, and how often a loop ran over a vector.
+/// What ran: how many blocks, how many loops the plan has (0 where there was no block), and how often a loop ran over a vector.
 #[derive(Clone, Copy, PartialEq, Eq, Debug)]
 pub struct Ran {
     pub blocks: u64,
@@ -28,7 +28,7 @@ pub struct Ran {
 }
 
 impl Ran {
-    /// With one block more, in which loops of this plan ran so often.
+    /// What ran, with one block more, in which `tasks` tasks of this plan ran.
     pub(crate) fn and_block(self, plan: &PlanSizes, tasks: u64) -> Ran
         requires blocks { self.blocks + 1 < 2 ^ 64 }
         requires runs { self.loop_runs + tasks < 2 ^ 128 }

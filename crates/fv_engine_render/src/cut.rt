@@ -10,7 +10,7 @@ ghost use Rattle.fv_engine_render.specs.inner.Runs.{BlockBegins};
 use crate::blocks::RunSizes;
 use fv_control::{Change, listen};
 
-/// How long the next block is. `next` is the place of the first change behind the frame.
+/// How many frames the next block has. `next` is the index of the first change after the frame.
 pub fn next_block(block: u32, total: u32, changes: &[Change], next: usize, frame: u32) -> u32
     requires inside { frame < total }
     requires some { 1 ≤ block }
@@ -29,7 +29,8 @@ pub fn next_block(block: u32, total: u32, changes: &[Change], next: usize, frame
     }
 }
 
-/// Makes the changes that come at a frame. The place of the first change behind them, and how long the block is that begins there.
+/// Makes the changes that come at a frame. Returns the index of the first change after them, and how many frames the block has that
+/// begins there.
 pub(crate) fn begin_block(
     sizes: &RunSizes,
     changes: &[Change],

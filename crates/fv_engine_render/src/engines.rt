@@ -15,7 +15,7 @@ use fv_split::split;
 use fv_split_plan::{Plan, histories_within, outputs_need_loops};
 use std::alloc::{AllocError, Global};
 
-/// The loops of a graph that names so many channels and controls.
+/// A plan of a graph that names only the first `channels` channels and the first `controls` controls.
 pub(crate) fn plan_of(
     alloc: Global,
     graph: &Graph,
@@ -27,6 +27,7 @@ pub(crate) fn plan_of(
     requires short { AreShort graph.now }
     ensures { IfOk result (IsPlanned graph.now channels controls) }
 {
+    // For the prover: a graph with outputs has a loop, and its histories are short enough for an engine.
     outputs_need_loops();
     histories_within();
     let rates = rates(alloc, graph)?;

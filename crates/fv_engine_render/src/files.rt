@@ -60,6 +60,7 @@ pub fn play_files<R: Threads + Wait + Sync, D: Desk, G: Gate + Sync>(
         × StopsAt d (control_streams changes.now (initial_of played.now.controls.now)) changes.now
         sizes.now (files_of tape.old) g (D.state desk.old) (D.state desk.new) e) }
 {
+    // For the prover: the samples after some frames are the next frames, and the answer on a prefix of the frames is a prefix.
     samples_follow();
     answers_prefixes();
     render_tape(rt, alloc, played, changes, sizes, ready, tape, desk, gate)

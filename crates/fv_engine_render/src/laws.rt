@@ -11,6 +11,7 @@ use fv_split_plan::outputs_need_loops;
 pub fn runs_have_loops()
     ensures { RunsHaveLoops }
 {
+    // A plan of a graph with outputs has a loop.
     outputs_need_loops();
 }
 
@@ -18,6 +19,7 @@ pub fn runs_have_loops()
 pub fn joined_is_graph()
     ensures { (f : Graph) → JoinedIsGraph f }
 {
+    // What graphs side by side answer, how many outputs they have, and what they name.
     joined_propagates();
     joined_are_wide();
     joined_names();

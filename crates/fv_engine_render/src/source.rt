@@ -14,7 +14,7 @@ use fv_simplify::simplify;
 use std::alloc::{AllocError, Global};
 use std::marker::Model;
 
-/// What is played: a diagram in which each slot is bound, its delays as `spans` answers them, and its controls, each of which begins
+/// What is played: a diagram in which each slot is bound, its delays as `spans` answers them, and its controls. Each control begins
 /// between its bounds.
 #[derive(Drop)]
 pub struct Source<'d, 'e, 'c> {

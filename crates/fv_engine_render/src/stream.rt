@@ -26,8 +26,8 @@ use std::marker::Sync;
 use std::sync::Wait;
 use std::thread::Threads;
 
-/// Runs an engine over all frames that a tape hears, and has the tape say what it answers, where the controls begin with these
-/// values, and change as a script says. `heard` and `said` have room for a block.
+/// Runs an engine over all frames that a tape hears, and has the tape say what it answers. The controls begin with `values` and
+/// change as a script says. `heard` and `said` have room for a block.
 pub(crate) fn play_tape<R: Threads + Wait + Sync, G: Gate + Sync, W, T: Tape<W>>(
     rt: &R,
     alloc: Global,
@@ -67,6 +67,7 @@ pub(crate) fn play_tape<R: Threads + Wait + Sync, G: Gate + Sync, W, T: Tape<W>>
     ensures stops { IfErr result (λ e. HasStopped engine.old sizes.now changes.now values.old (G.told gate.old) (G.told gate.new)
         (λ h s act. T.Stopped tape.old tape.new world.old world.new h s act e)) }
 {
+    // For the prover: values look back only, and in a block the controls hold the values that the changes up to it gave.
     values_look_back();
     values_held();
     controls_hold();

@@ -28,15 +28,18 @@ use std::marker::Sync;
 use std::sync::Wait;
 use std::thread::Threads;
 
-/// An engine of a diagram's graph, the controls' numbers, and room for the samples of a block each way: all the memory without
-/// which a run cannot go on.
+/// All the memory without which a run of a diagram cannot go on.
 #[derive(Drop)]
 pub struct Ready {
+    /// The engine of the diagram's graph.
     pub engine: Engine,
     /// How many loops its plan has.
     pub loops: u64,
+    /// By control: the number that it has now.
     pub values: Vec<i32>,
+    /// Room for the samples that a block hears: `inputs` a frame, one frame after another.
     pub heard: Vec<i32>,
+    /// Room for the samples that a block says: `outputs` a frame, one frame after another.
     pub said: Vec<i32>,
 }
 
@@ -63,7 +66,7 @@ pub fn make_ready(
     make_ready_graph(alloc, &graph, inputs, source.controls, sizes)
 }
 
-/// Takes all the memory without which a run of a graph cannot go on that has so many inputs and these controls.
+/// Takes all the memory without which a run of a graph cannot go on, where it has `inputs` inputs and these controls.
 pub fn make_ready_graph(
     alloc: Global,
     graph: &Graph,
@@ -91,7 +94,7 @@ pub fn make_ready_graph(
     })
 }
 
-// So many frames of zeros.
+// `frames` frames of `width` zeros each.
 fn blank_samples(alloc: Global, frames: u32, width: usize) -> Result<Vec<i32>, AllocError>
     ensures { IfOk result (λ v. length v.items ≡ frames * width) }
 {
@@ -133,11 +136,12 @@ pub fn render_tape<R: Threads + Wait + Sync, G: Gate + Sync, W, T: Tape<W>>(
     // In every block each loop of a plan of the diagram's graph ran once on each vector, after all that it reads.
     ensures ran { (d : Diagram) → IsSetToPlay d played.now sizes.now ready → IfOk result (λ r. RanWhole d played.now.controls.now changes.now
         sizes.now r (G.told gate.old) (G.told gate.new)) }
-    // Where the tape stops, so it was with the blocks that were heard, and all that the diagram answers was said but for what the
-    // tape stopped at.
+    // Where the tape stops, the blocks that were heard ran so. All that the diagram answers on them was said but for what the tape
+    // stopped at.
     ensures stops { (d : Diagram) → IsSetToPlay d played.now sizes.now ready → IfErr result (λ e. HasEnded d played.now.controls.now changes.now
         sizes.now (G.told gate.old) (G.told gate.new) (λ h s act. T.Stopped tape.old tape.new world.old world.new h s act e)) }
 {
+    // For the prover: the answer has a frame for each frame, as wide as the diagram's outputs.
     answers_each();
     answers_wide();
     spans_fit(played.controls);
@@ -160,7 +164,7 @@ pub fn render_tape<R: Threads + Wait + Sync, G: Gate + Sync, W, T: Tape<W>>(
         world,
         gate,
     );
-    // Written out, so that all that is ready is let go of by the function that every owner of it shares.
+    // Dropped by a call, so that the program has one drop function for all owners of it.
     drop(ready);
     ran
 }

@@ -15,7 +15,7 @@ pub others_stay : (w s j t p : ℕ) (xs : List ℤ) (x : ℤ) → j < w → p < 
 others_stay w s j t p xs x inside there apart =
     get_or-set_other xs (t * w + p) (s * w + j) x (pos 0) (at_another w s j t p inside there apart)
 
--- the frames before `from` stand, and those of a strip are written behind them
+-- the frames before `from` stand, and those of a strip are written after them
 pub strip_more : (from count w p : ℕ) (old new : List ℤ) (f : ℕ → ℤ)
     → ((k : ℕ) → k < count → get_or new ((from + k) * w + p) (pos 0) ≡ f (from + k))
     → ((t : ℕ) → t < from → get_or new (t * w + p) (pos 0) ≡ get_or old (t * w + p) (pos 0))

@@ -40,7 +40,7 @@ pub record HaveScratch (p : Parts) (ss : List Scratch) : Type 0 where
   pub count : length ss ≡ p.count
   pub each : (j : ℕ) (d : Scratch) → j < p.count → HasRoom (p.loops.code j) (get_or ss j d)
 
--- and it serves runs with these held values
+-- the scratch of each loop serves runs of its code with these held values
 pub record ServeAll (p : Parts) (held : ℕ → ℤ) (ss : List Scratch) : Type 0 where
   pub count : length ss ≡ p.count
   pub each : (j : ℕ) (d : Scratch) → j < p.count → Serves (p.loops.code j) held (get_or ss j d)

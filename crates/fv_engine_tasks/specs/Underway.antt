@@ -25,7 +25,7 @@ line_at lines k = slice_index_or lines k no_line
 abbrev pub IsTaskIn : Tasks → Task → Type 0
 IsTaskIn g t = (t.loop_no < g.loops) × (t.vector < g.vectors)
 
--- The journal so far, where so many vectors of each loop are done: the lines of the tasks that are done, numbered in order.
+-- The journal so far, where N vectors of each loop are done: the lines of the tasks that are done, numbered in order.
 pub record IsSoFar (g : Tasks) (vectors : ℕ → ℕ) (lines : List Line) : Type 0 where
   pub each : (t : Task) → IsTaskIn g t → total (λ line. bit (is_line_of t line)) lines ≡ bit (ltb t.vector (vectors t.loop_no))
   pub only : (k : ℕ) → k < length lines → IsTaskIn g (line_at lines k).task
@@ -36,8 +36,9 @@ pub record IsSoFar (g : Tasks) (vectors : ℕ → ℕ) (lines : List Line) : Typ
   -- what a line's task reads is done
   pub reads : (k : ℕ) (t : Task) → k < length lines → IsTaskIn g t → reads_task g (line_at lines k).task t ≡ true → t.vector < vectors t.loop_no
 
--- The one worker is free, so many vectors of each loop are done, each place holds what it is to hold up to them, whatever
--- that is behind what it held as the block began, and so far goes the journal.
+-- A block between two of its tasks. The one worker is free, and some vectors of each loop are done. For every content that the
+-- codes obey and that the places held as the block began, each place holds it up to these vectors. The journal has a line for each
+-- task that is done.
 pub record IsUnderway (g : Tasks) (b : Block) (first : State) (s : Now) (now : State) (lines : List Line) : Type 0 where
   pub vectors : ℕ → ℕ
   pub within : (j : ℕ) → vectors j ≤ g.vectors
@@ -50,8 +51,8 @@ pub record IsUnderway (g : Tasks) (b : Block) (first : State) (s : Now) (now : S
   pub journal : IsSoFar g vectors lines
   pub counted : length lines + left_to_do s.done ≡ task_count g
 
--- The block's tasks are done: each place holds what it is to hold up to all vectors of its loop, and the journal is in order, with a line
--- for each task.
+-- The block's tasks are done. Each place holds what it is to hold up to all vectors of its loop. The journal is in order, with a
+-- line for each task.
 pub record EndsBlock (g : Tasks) (b : Block) (first now : State) (lines : List Line) : Type 0 where
   pub vectors : ℕ → ℕ
   pub all : (j : ℕ) → j < g.loops → vectors j ≡ g.vectors

@@ -93,7 +93,7 @@ fn copy_lane<S: Store>(
     }
 }
 
-/// Copies so many frames of these lanes, one after another, from the block's first sample on.
+/// Copies the first `frames` frames of the block from these lanes, interleaved by lane.
 pub fn copy_outputs<S: Store>(lanes: &[u64], frames: u64, store: &S, output: &mut [i32])
     requires valid { S.is_valid store.now }
     requires long { length output.old ≡ frames * length lanes.now }

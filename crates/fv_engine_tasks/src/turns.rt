@@ -23,15 +23,20 @@ use fv_loopcode::{Store, task_is_free};
 use fv_loopcode_machine::{Scratch, run};
 use fv_outside::{Gate, Line, Task};
 
-/// What the tasks of a block are of: the plan's codes, the held values, and the input in frames of so many channels, cut in
-/// vectors of so many frames.
+/// What the tasks of a block work on.
 #[derive(Drop)]
 pub struct Job<'p, 'h, 'i, P> {
+    /// The codes of the plan's loops.
     pub plan: &'p P,
+    /// The held values, by their numbers.
     pub held: &'h [i32],
+    /// The input: `frames` frames of `channels` numbers, one after another.
     pub input: &'i [i32],
+    /// How many numbers a frame of the input has.
     pub channels: u64,
+    /// How many frames a vector has; the last one may be shorter.
     pub vector: u32,
+    /// How many frames the block has.
     pub frames: u32,
 }
 
@@ -157,6 +162,7 @@ fn turn<P: Codes, S: Store, G: Gate>(
     ensures who { All (λ (line : Line). line.worker ≡ 0) lines.old.items → All (λ (line : Line). line.worker ≡ 0) lines.new.items }
     ensures less { left_to_do core.new.now.done < left_to_do core.old.now.done }
 {
+    // For the prover: where all that the task reads is done, its lanes and cells hold what they are to hold, so it may run.
     task_is_free();
     take(core, tasks, t);
     let task = tasks.task(t);

@@ -1,4 +1,4 @@
--- The entries' slots and the empty ones behind them are those of a new board.
+-- The entries' slots and the empty ones after them are those of a new board.
 use Rattle.std.proofs.Common.{◌≡◌, ℕ, zero, suc, ◌+◌, ◌-◌, ◌<◌, ◌≤◌, List, [], ◌∷◌, ◌++◌, map, length, replicate}
 use Rattle.std.proofs.Common.{slice_index_or, refl, sym, ap, ◌∙◌, subst, arith, Option, Some, None, lt-ltb, ltb-true, true≢false, length-append}
 use Rattle.std.proofs.lemmas.List.{length-map}

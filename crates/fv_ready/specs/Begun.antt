@@ -7,7 +7,7 @@ use Rattle.fv_ready.specs.declared.seat.WorkerSeat.{WorkerSeat}
 use Rattle.fv_ready.specs.Seats.{view_of, slots_of, hand_of, IsSeat}
 
 module _ {C : Type 0} where
-  -- the slots of a new board: the entries, and behind them nothing
+  -- the slots of a new board: the entries, and after them nothing
   abbrev pub first_slots : ℕ → List C → List (Option C)
   first_slots edges entries = map Some entries ++ replicate (edges - length entries) None
 
@@ -17,7 +17,7 @@ module _ {C : Type 0} where
   parcels_of (None ∷ xs) = parcels_of xs
   parcels_of (Some x ∷ xs) = x ∷ parcels_of xs
 
--- empty lists, with room for so many numbers
+-- empty lists, with room for N numbers
 abbrev pub AreRoomy : ℕ → List (Vec ℕ) → Type 0
 AreRoomy room [] = Unit {0}
 AreRoomy room (v ∷ vs) = ((v.items ≡ []) × (room ≤ vec_capacity v)) × AreRoomy room vs

@@ -28,8 +28,8 @@ module _ {C Key : Type 0} (wires : Graph → Wires) (edge_of : C → ℕ) (key_o
   abbrev pub MayHold : About C → ℕ → Option C → Type 0
   MayHold a e x = (p : C) → x ≡ Some p → (edge_of p ≡ e) × (key_of p ≡ key_of a.sample.value)
 
-  -- the seat has no task in hand: each that it took is finished, and the slots that it has are those of the inner edges out of
-  -- these tasks that have not arrived, and full
+  -- The seat has no task in hand: each that it took is finished. The slots that it has are full, and are those of the inner edges
+  -- out of these tasks that have not arrived.
   pub record IsFree (a : About C) (v : View C) (c : List (ℕ × Option C)) : Type 0 where
     pub finished : (t : ℕ) → done_by (finishes t) v ≡ done_by (wins t) v
     pub owed : (e : ℕ) → times e (places c) + done_by (arrives e) v ≡ bit

@@ -20,8 +20,8 @@ having k seats = total (λ s. times k (view_of s).numbers) seats
 abbrev pub HaveAll : {C : Type 0} → ℕ → List (WorkerSeat C) → Type 0
 HaveAll workers seats = (0 < workers) × ((k : ℕ) → k < workers → having k seats ≡ 1)
 
--- Nothing is left over: no seat has a task in hand or a slot, and of each task there are as many claims as it was dealt, which is
--- once where it reads no other, and as there are arrivals after which its count was 0.
+-- Nothing is left over: no seat has a task in hand or a slot. Each task was claimed as often as it was dealt: once where it reads
+-- no other, and once for each arrival after which its count was 0.
 pub record NothingLeft {C : Type 0} (net : Net) (seats : List (WorkerSeat C)) : Type 0 where
   pub free : All (λ s. (hand_of s ≡ None) × (slots_of s ≡ [])) seats
   pub claimed : (t : ℕ) → t < net.tasks → told_by (claims t) seats ≡ bit (need_count net t == 0) + told_by (zeroes net t) seats

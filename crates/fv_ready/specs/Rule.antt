@@ -101,7 +101,7 @@ together v w = record { board = v.board; numbers = v.numbers ++ w.numbers; deeds
 abbrev pub spent : {C : Type 0} → View C
 spent = record { board = None; numbers = []; deeds = [] }
 
--- the same, by its parts
+-- the view of a seat that was joined to another, by its parts
 abbrev pub IsSpent : {C : Type 0} → View C → Type 0
 IsSpent v = (v.board ≡ None) × (v.deeds ≡ []) × (v.numbers ≡ [])
 
@@ -158,8 +158,8 @@ arrives_with n t c (Claimed u b) = 0
 abbrev pub zeroes : Net → ℕ → Deed → ℕ
 zeroes n t = arrives_with n t 0
 
--- what an arrival tells: it is of the slot in front, which goes back, and no arrival in the seat's list has had the count 0 of its
--- reader before
+-- What an arrival tells: it is of the slot in front, which goes back. No arrival in the seat's list has had the count 0 of its
+-- reader before.
 abbrev pub Gives : {C : Type 0} → (Graph → Wires) → Step (Option C) → Me (Option C) (View C) → ℕ → Me (Option C) (View C) → Type 0
 Gives {C} wires st m n k = (k.0 ≡ noted m.0 (Arrived (front_edge m.1) (n - 1))) × (k.1 ≡ rest m.1) × (0 < n)
     × ((a : About C) → m.0.board ≡ Some a → let net = (wires a.tasks.value).net in done_by (zeroes net (net.reader (front_edge m.1))) m.0 ≡ 0)

@@ -48,8 +48,8 @@ module _ {C Key : Type 0} (edge_of : C → ℕ) (key_of : C → Key) where
   abbrev pub Meets : About C → State (Option C) (View C) → Type 0
   Meets a s = IsWhole graph_wires edge_of key_of a s
 
-  -- Whatever the board is when the word i becomes f of what it was, seat `id` has a new view and an act that keep the rule, what is
-  -- shown changes by the event, and `then` holds of the number found and of the seat after
+  -- A step by which the word i becomes f of what it was, whatever the board is then. Seat `id` has a new view and an act that keep
+  -- the rule. What is shown changes by the event, and `then` holds of the number found and of the seat after.
   abbrev pub Steps : About C → ℕ → Me (Option C) (View C) → ℕ → (ℕ → ℕ) → (ℕ → Option Event) → (ℕ → Me (Option C) (View C) → Type 0) → Type 0
   Steps a id me i f event then = (s : State (Option C) (View C)) → Meets a s → get_elem? s.views id ≡ some me.0 → slice_index s.words i < 2 ^ 64
       → (w : View C) × (act : Act (Option C)) × Valid s.homes me.1 act × Meets a (stepped s i (f (slice_index s.words i)) id me.1 w act)

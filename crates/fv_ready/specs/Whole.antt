@@ -45,7 +45,7 @@ abbrev pub first_number : List ℕ → List ℕ
 first_number [] = []
 first_number (k ∷ ks) = k ∷ []
 
--- the numbers behind the first
+-- the numbers after the first
 abbrev pub other_numbers : List ℕ → List ℕ
 other_numbers [] = []
 other_numbers (k ∷ ks) = ks
@@ -79,8 +79,9 @@ module _ {C Key : Type 0} (wires : Graph → Wires) (edge_of : C → ℕ) (key_o
     pub drawn : slice_index s.words 0 ≡ total (λ t. all (starts t) s.views + all (finishes t) s.views) (numbers (wires a.tasks.value).net.tasks)
     pub stamped_once : (t : ℕ) → (all (starts t) s.views < 2) × (all (finishes t) s.views < 2)
     pub start_below : (k t : ℕ) → 0 < all (finishes_at k t) s.views → (m : ℕ) × (m < k) × (0 < all (starts_at m t) s.views)
-    -- counts: one arrival into a task had each count after it from what the word is now up to one below the number of its edges, and none
-    -- had another; each look found what the word is now, or a number above it that is at most the number of its edges
+    -- Counts: for each count from what the word is now up to one below the number of the task's edges, one arrival into it had that
+    -- count after it, and none had another. Each look found what the word is now, or a number above it that is at most the number
+    -- of the edges.
     pub counts_once : (t c : ℕ) → t < (wires a.tasks.value).net.tasks → all (arrives_with (wires a.tasks.value).net t c) s.views
         ≡ bit (leb (slice_index s.words (count_word t)) c && ltb c (length ((wires a.tasks.value).net.needs t)))
     pub seen_between : (t c : ℕ) → t < (wires a.tasks.value).net.tasks → 0 < all (saw t c) s.views

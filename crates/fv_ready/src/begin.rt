@@ -79,7 +79,7 @@ fn hand_back<C: Drop>(entries: &mut Vec<C>, mut slots: Vec<Option<C>>)
     entries.reverse();
 }
 
-// Empty lists, with room for so many numbers.
+// `count` empty lists, each with room for `room` numbers.
 fn roomy_lists(alloc: Global, count: u32, room: usize) -> Result<Vec<Vec<u64>>, AllocError>
     ensures { IfOk result (λ v. (vec_len v ≡ count) × AreRoomy room v.items) }
 {

@@ -19,12 +19,12 @@ pub struct InHand {
 #[derive(Drop)]
 pub struct WorkerSeat<C> {
     pub(crate) seat: Seat<Option<C>, View<C>>,
-    // the edges of the slots that the seat has, in their order
+    // The edges of the slots that the seat has, in their order.
     pub(crate) edges: Vec<u64>,
     pub(crate) in_hand: Option<InHand>,
 }
 
-// Where a number stands first.
+// The index of the first occurrence of a number.
 fn first_place(edges: &[u64], edge: u64) -> Option<usize>
     ensures { result ≡ position (λ e. e == edge) edges.now }
 {
@@ -41,7 +41,7 @@ pub(crate) fn place_of(edges: &[u64], edge: u64) -> usize
     first_place(edges, edge).unwrap_or(0)
 }
 
-// Puts a list behind another one that has room for it.
+// Puts a list after another one that has room for it.
 pub(crate) fn append(list: &mut Vec<u64>, more: &[u64])
     requires { vec_len list.old + length more.now ≤ vec_capacity list.old }
     ensures items { list.new.items ≡ list.old.items ++ more.now }

@@ -31,8 +31,8 @@ impl<'t, C: Parcel> Board<'t, C> {
         found == 0
     }
 
-    /// True exactly where this is the first claim of the task. The seat has the task in hand then, with the slots of its edges,
-    /// of which the inward ones are full and the outward ones empty.
+    /// True exactly where this is the first claim of the task. The seat has the task in hand then, with the slots of its edges: the
+    /// inward ones are full, and the outward ones are empty.
     pub fn claim(&self, seat: &mut WorkerSeat<C>, t: u64) -> bool
         requires seat { IsSeatOf C.edge_of C.key_of self.now seat.old }
         requires free { (hand_of seat.old ≡ None) × (slots_of seat.old ≡ []) }

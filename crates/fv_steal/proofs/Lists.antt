@@ -1,4 +1,4 @@
--- Places in lists, and how often a number stands before and behind one.
+-- Places in lists, and how often a number stands before and after one.
 use Rattle.std.proofs.Common.{◌≡◌, ◌≢◌, ℕ, zero, suc, ◌+◌, ◌<◌, List, [], ◌∷◌, length, get_or, take, drop, refl, sym, ap, ◌∙◌, arith}
 use Rattle.std.proofs.Common.{◌==◌}
 use Rattle.std.proofs.lemmas.List.{take_more, drop_more, take-append-drop}
@@ -22,7 +22,7 @@ times_drop xs i d x h = ap (times x) (drop_more xs i d h)
 pub times_take : (xs : List ℕ) (i d x : ℕ) → i < length xs → times x (take (i + 1) xs) ≡ times x (take i xs) + bit (get_or xs i d == x)
 times_take xs i d x h = ap (times x) (take_more xs i d h) ∙ total_append (λ y. bit (y == x)) (take i xs) (get_or xs i d ∷ []) ∙ omega arith
 
--- where each number stands once at most, what stands behind a place is not what stands there
+-- where each number stands once at most, what follows a place is not what stands there
 pub apart_behind : (xs : List ℕ) (i d x : ℕ) → ((y : ℕ) → times y xs < 2) → i < length xs → 0 < times x (drop (i + 1) xs) → x ≢ get_or xs i d
 apart_behind xs i d x once h there = λ e. let c = times_cut xs i x in let a = times_drop xs i d x h in let b = bit_same (get_or xs i d) x (sym e) in
     let o = once x in absurd (omega arith)

@@ -18,7 +18,7 @@ use Rattle.fv_steal.proofs.Lists.{times_at, times_cut, times_drop, times_take, a
 use Rattle.fv_steal.proofs.Slots.{slot_with, slot_else}
 use Rattle.fv_steal.proofs.Edges.{inward_once, outward_once, not_inward}
 
--- what stands behind a place stands in the list
+-- what follows a place stands in the list
 behind_in : (xs : List ℕ) (i x : ℕ) → 0 < times x (drop i xs) → 0 < times x xs
 behind_in xs i x h = let c = times_cut xs i x in omega arith
 

@@ -2,7 +2,7 @@
 use Rattle.std.proofs.Common.{◌≡◌, ℕ, zero, suc, ◌+◌, ◌<◌, List, [], ◌∷◌, ◌++◌, length, get_or, set, refl, sym, subst, arith}
 use Rattle.fv_steal.specs.inner.Places.{AreReady, HaveChanged}
 
--- a place behind the first
+-- a place after the first
 place_more : (P : ℕ → Type 0) (from k : ℕ) → P (from + suc k) → P (from + 1 + k)
 place_more P from k p = subst P (omega arith) p
 
@@ -20,7 +20,7 @@ module _ {X : Type 0} (P : ℕ → X → Type 0) (from : ℕ) where
     record { room = omega arith; each = λ k d l. place_more (λ i. P i (get_or ys k d)) from k (r.each (suc k) d (omega arith)) },
   )
 
-  -- a list that is cut behind its first place
+  -- a list that is cut after its first place
   pub ready_cut : (all xs ys : List X) → all ≡ xs ++ ys → length xs ≡ 1 → AreReady P from all → AreReady P from xs × AreReady P (from + 1) ys
   ready_cut all [] ys e l r = absurd (omega arith)
   ready_cut all (x ∷ []) ys e l r = ready_first x ys (subst (AreReady P from) e r)
@@ -54,7 +54,7 @@ module _ {X : Type 0} (R : ℕ → X → X → Type 0) (from : ℕ) where
   changed_one (x ∷ []) (x' ∷ y' ∷ xs') ys ys' l a b = let long = a.long in absurd (omega arith)
   changed_one (x ∷ []) (x' ∷ []) ys ys' l a b = changed_first x x' ys ys' a b
 
-  -- a list that was cut behind its first place
+  -- a list that was cut after its first place
   pub changed_cut : (all xs ys xs' ys' : List X) → all ≡ xs ++ ys → length xs ≡ 1 → HaveChanged R from xs xs' → HaveChanged R (from + 1) ys ys'
       → HaveChanged R from all (xs' ++ ys')
   changed_cut all xs ys xs' ys' e l a b = subst (λ zs. HaveChanged R from zs (xs' ++ ys')) (sym e) (changed_one xs xs' ys ys' l a b)

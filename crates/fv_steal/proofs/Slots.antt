@@ -41,7 +41,7 @@ module _ {C : Type 0} where
       (λ is. ap (λ b. cond b x.1 (slot_at (xs ++ []) e)) (eq-eqb x.0 e is) ∙ all.0)
       (λ ne. ap (λ b. cond b x.1 (slot_at (xs ++ []) e)) (ne_eqb x.0 e ne) ∙ nones xs all.1 e)
 
-  -- empty slots behind
+  -- empty slots after
   pub behind : (ins outs : List (ℕ × Option C)) → Each (λ e x. x ≡ None) outs → (e : ℕ) → times e (places ins) ≡ 0 → slot_at (ins ++ (outs ++ [])) e ≡ None
   behind [] outs all e h = nones outs all e
   behind (x ∷ xs) outs all e h = dite (ℕ_discrete x.0 e)

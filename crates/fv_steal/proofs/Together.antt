@@ -53,7 +53,7 @@ module _ {C : Type 0} (g : Tasks) (n : ℕ) (ps : List (Part C)) (seats : List (
   pub seats_are : map seat_of ws ≡ seats
   seats_are = let o = h.long in map_two seat_of (λ s. s) ws seats (omega arith) seat_there ∙ map_self seats
 
--- so many deques have so many parts
+-- n deques have n parts
 pub long_puts : (ds : List TaskDeque) (n : ℕ) → puts_of ds ≡ replicate n [] → length ds ≡ n
 long_puts ds n is = sym (length-map ds (λ (d : TaskDeque). (account_of d).put)) ∙ ap length is ∙ length-replicate n []
 

@@ -36,7 +36,7 @@ if_true b P Q e m = subst (λ k. MatchBool k P Q) e m
 pub if_false : (b : Bool) (P Q : Type 0) → b ≡ false → MatchBool b P Q → Q
 if_false b P Q e m = subst (λ k. MatchBool k P Q) e m
 
--- the claim, behind looks
+-- the claim, after looks
 pub claimed_on : {C : Type 0} (old saw new : View C) (t : ℕ) (r : Bool) → Looked old saw → new ≡ noted saw (Claimed t r)
     → (p : Deed → ℕ) → ((u c : ℕ) → p (Saw u c) ≡ 0) → done_by p new ≡ done_by p old + p (Claimed t r)
 claimed_on old saw new t r looked is p none = let l = looked p none in let a = ap (λ (u : View _). done_by p u) is ∙ done_noted p saw (Claimed t r) in

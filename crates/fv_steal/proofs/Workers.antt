@@ -42,7 +42,7 @@ module _ {C Key : Type 0} (edge_of : C → ℕ) (key_of : C → Key) (id : Table
   idle s h none = subst (λ (o : Option InHand). MatchOption o (IsFree graph_wires edge_of key_of a (view_of s) (slots_of s))
       (λ r. IsBusy graph_wires edge_of key_of a r.task r.started (view_of s) (slots_of s))) none h.hand
 
-  -- what a turn left behind
+  -- what a turn left after
   pub record IsAfter (t s f : ℕ) (saw : View C) (line : Line) (old new : Worker C) : Type 0 where
     pub turn : IsTurn g t s f (did old) saw (did new)
     pub seat : IsSeat edge_of key_of id a new.seat

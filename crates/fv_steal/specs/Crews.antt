@@ -87,8 +87,9 @@ pub record IsJournalOf {C : Type 0} (g : Tasks) (worker : ℕ) (v : View C) (lin
   pub stamps : (n : ℕ) → stamped n lines ≡ done_by (stamps n) v
   pub each_line : All (IsLineOf g worker v) lines
 
--- A worker between its turns: its seat has nothing in hand and owes nothing, it put into its deque what it was dealt and what its
--- arrivals brought down to the count 0, its lines are those of the tasks that its seat won, and there is room for all that can come.
+-- A worker between its turns: its seat has nothing in hand and owes nothing. It put into its deque what it was dealt, and what its
+-- arrivals brought down to the count 0. Its lines are those of the tasks that its seat won, and there is room for all that can
+-- come.
 pub record IsWorker {C Key : Type 0} (edge_of : C → ℕ) (key_of : C → Key) (id : TableId) (a : About C) (w : Worker C) : Type 0 where
   pub seat : IsSeat edge_of key_of id a (seat_of w)
   pub free : (hand_of (seat_of w) ≡ None) × (slots_of (seat_of w) ≡ [])
@@ -124,8 +125,8 @@ module _ {C Key : Type 0} (edge_of : C → ℕ) (key_of : C → Key) where
   abbrev pub AreFreshSeats : Graph → TableId → About C → List (WorkerSeat C) → Type 0
   AreFreshSeats g id a seats = (a.tasks.value ≡ g) × (a.workers ≡ length seats) × AreFirstSeats edge_of key_of id a 0 seats
 
-  -- A crew before its work: as many workers as the board has, in the order of their numbers, each with a hold on each deque, that
-  -- of its own too, which are all that are out.
+  -- A crew before its work: as many workers as the board has, in the order of their numbers. Each has a hold on each deque, on its
+  -- own too, and no other holds are out.
   pub record IsCrew (id : TableId) (a : About C) (ws : List (Worker C)) : Type 0 where
     pub count : length ws ≡ a.workers
     pub workers : All (λ w. IsWorker edge_of key_of id a w) ws

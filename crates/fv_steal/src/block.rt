@@ -21,8 +21,8 @@ use std::marker::{Send, Sync};
 use std::sync::Wait;
 use std::thread::Threads;
 
-/// Runs the tasks of a block by so many workers side by side, in whatever order their steals make of it. `entries` has the parcel of
-/// each loop's entry edge, loop by loop; the answer has those of the exit edges, and `lines` becomes the block's journal. Where
+/// Runs the tasks of a block by `workers` workers side by side, in whatever order their steals make. `entries` has the parcel of
+/// each loop's entry edge, loop by loop. Returns the parcels of the exit edges, and `lines` becomes the block's journal. Where
 /// memory is refused no task is run, and the entries come back.
 pub fn run_crew<
     R: Threads + Wait + Sync,
@@ -48,7 +48,7 @@ pub fn run_crew<
         (edges_of tasks.now.tasks - tasks.now.tasks.loops) tasks.now.tasks.loops v.items) }
     ensures journal { OnOk result (IsOrdered tasks.now.tasks lines.new.items) }
     ensures count { OnOk result (length lines.new.items ≡ task_count tasks.now.tasks) }
-    // Each task was run by one of so many.
+    // Each task was run by one of these workers.
     ensures who { OnOk result (All (λ (line : Line). line.worker < workers) lines.new.items) }
     ensures entries { IfErr result (λ v. AreParcelsFrom C.edge_of C.key_of (B.key body.now) 0 tasks.now.tasks.loops v.items) }
     ensures untold { OnErr result (lines.new.items ≡ []) }

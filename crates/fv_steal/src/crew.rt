@@ -92,8 +92,8 @@ fn crew_parts<C: Drop>(
 }
 
 impl<C: Parcel + Drop> Worker<C> {
-    /// A worker for each seat, with its deque, a hold on each deque, and room for all parcels of a task and for all lines of a
-    /// block; the tasks that read no other are dealt to the deques in turn. Want of memory hands the seats back.
+    /// A worker for each seat, with its deque and a hold on each deque. It has room for all parcels of a task and for all lines of
+    /// a block. The tasks that read no other are dealt to the deques in turn. Want of memory hands the seats back.
     pub fn crew(
         alloc: Global,
         tasks: &Tasks,

@@ -89,7 +89,7 @@ pub(crate) fn holds_on_all(
     Ok(victims)
 }
 
-// A hold on each deque, for each of so many workers.
+// By worker, for `count` workers: a hold on each deque.
 pub(crate) fn holds_of_all(
     alloc: Global,
     deques: &mut Vec<TaskDeque>,

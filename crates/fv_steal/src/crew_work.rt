@@ -96,8 +96,9 @@ fn last_or_stolen<C>(worker: &mut Worker<C>) -> Option<u64>
     steal(&mut worker.victims, u64::from(worker.number))
 }
 
-/// A number to run next: the first of the worker's own deque, so that the vectors of all loops go side by side and what reads a
-/// vector of them all need not wait for the last one. Where another took that number at the same time, the last, or else one of another's.
+/// A number to run next: the first of the worker's own deque. So the vectors of all loops go side by side, and what reads a vector
+/// of them all need not wait for the last one. Where another worker took that number at the same time, it is the last one, or else
+/// one of another's.
 fn find<C>(worker: &mut Worker<C>) -> Option<u64>
     ensures found { MatchOption result ((x : ℕ) → took worker.new x ≡ took worker.old x) (λ t. (x : ℕ) → took worker.new x ≡ took worker.old x + bit (t == x)) }
     ensures same { IsSame worker.old worker.new }
@@ -202,7 +203,7 @@ fn drain_all<R: Wait, C: Parcel + Drop, B: Body<C>, G: Gate>(
     }
 }
 
-/// Runs the tasks of a block by all workers side by side, and then what is left in their deques, so that nothing is left over.
+/// Runs the tasks of a block by all workers side by side. Then runs what is left in their deques, so that nothing is left over.
 pub fn work<R: Threads + Wait + Sync, C: Parcel + Send + Drop, B: Body<C> + Sync, G: Gate + Sync>(
     rt: &R,
     tasks: &Tasks,

@@ -10,5 +10,6 @@ pub fn journal_law<C>()
     ensures journal { JournalLaw C }
     ensures count { CountLaw C }
 {
+    // The edges go from tasks to the tasks that read them.
     edges_follow_reads();
 }

@@ -13,9 +13,11 @@ pub struct Account {
     pub owns: bool,
     /// How many passes the owner has given out that did not come back.
     pub lent: u64,
-    /// 1 where the pass is such a one.
+    /// 1 where the pass was given out by the owner, else 0.
     pub held: u64,
+    /// The numbers that were put, in order.
     pub put: LinkedList<u64>,
+    /// The numbers that were taken, in order.
     pub taken: LinkedList<u64>,
 }
 

@@ -89,6 +89,7 @@ pub(crate) fn turn<R: Wait, C: Parcel + Drop, B: Body<C>, G: Gate>(
     ensures took { (x : ℕ) → took worker.new x ≡ took worker.old x }
     ensures claimed { (x : ℕ) → x < task_count tasks.now.tasks → done_by (claims x) (did worker.new) ≡ done_by (claims x) (did worker.old) + bit (t == x) }
 {
+    // For the prover: each edge stands once among those into its reader, and once among those out of its source.
     edges_meet();
     if t >= tasks.len() {
         return;

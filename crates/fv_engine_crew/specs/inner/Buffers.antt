@@ -16,7 +16,7 @@ pub record HaveRoom (b : SpreadBlock) (l : Buffers) : Type 0 where
   pub none_back : vec_len l.back ≡ 0
   pub back : length b.plan.now.lanes ≤ vec_capacity l.back
 
--- and before that, one with room for the lanes as they begin
+-- the lists of a block before any lane is begun: one of them has room for the lanes as they begin
 pub record AreEmpty (b : SpreadBlock) (l : Buffers) : Type 0 where
   pub others : HaveRoom b l
   pub none_begun : l.begun.items ≡ []

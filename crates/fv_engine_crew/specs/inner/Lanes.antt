@@ -34,12 +34,13 @@ pub record IsStartOf (b : SpreadBlock) (ws : List LaneWriter) (lists : List (Vec
   pub lanes : k.lanes.value.items ≡ ws
   pub cells : k.cells.value.items ≡ lists
 
--- the same writers, lane by lane
+-- two lists have the same writers, lane by lane
 pub record AreSame (begun ws : List LaneWriter) : Type 0 where
   pub count : length ws ≡ length begun
   pub each : (l : ℕ) (d : LaneWriter) → l < length begun → SameWriter (slice_index_or ws l d) (slice_index_or begun l d)
 
--- The same writers, all written, and as many lists: they hold what the block's codes leave, from what was held as it began.
+-- The same writers as at first, all written, and as many lists. They hold what the block's codes leave, from what was held as it
+-- began.
 pub record AreWhole (b : Block) (tables : List (List ℤ)) (begun ws : List LaneWriter) (before after : List (Vec ℤ Global)) : Type 0 where
   pub same : AreSame begun ws
   pub full : (l : ℕ) (d : LaneWriter) → l < length begun → written_by (slice_index_or ws l d) ≡ b.frames
@@ -47,7 +48,7 @@ pub record AreWhole (b : Block) (tables : List (List ℤ)) (begun ws : List Lane
   pub holds : (f : Content) → ObeysBlock b f → HoldUpTo b f none_done (state_of tables begun before)
       → HoldUpTo b f (λ j. vectors_of b.frames b.vector) (state_of tables ws after)
 
--- The same writers, with nothing written: they hold what they held as the block began.
+-- The same writers as at first, with nothing written. They hold what they held as the block began.
 pub record AreUntouched (begun ws : List LaneWriter) : Type 0 where
   pub same : AreSame begun ws
   pub lists : (l : ℕ) (d : LaneWriter) → l < length begun → list_of (slice_index_or ws l d) ≡ list_of (slice_index_or begun l d)

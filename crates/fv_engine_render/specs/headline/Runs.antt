@@ -9,7 +9,7 @@ use Rattle.fv_engine_render.specs.headline.Blocks.{AreBlocks, RanBlocks, StillTe
 use Rattle.fv_engine_render.specs.declared.blocks.RunSizes.{RunSizes}
 use Rattle.fv_engine_render.specs.declared.blocks.Ran.{Ran}
 
--- the loops of so many blocks: 0 where there is no block
+-- the loops that are counted of some blocks: 0 where there is no block
 abbrev pub loops_in : (blocks loops : ℕ) → ℕ
 loops_in blocks loops = if nat_lt 0 blocks then loops else 0
 
@@ -18,8 +18,9 @@ pub record HasRun (p : PlanView) (s : RunSizes) (changes : List Change) (f : ℕ
   -- the blocks' lengths: they are cut at the block size, at the end and at each change
   pub lengths : List ℕ
   pub cut : AreBlocks s.block s.frames changes 0 f lengths
-  -- where the gate still tells its list, it was told one entry for each block: the plan's loops and reads, the block's vectors,
-  -- and a journal in which each loop ran once on each vector, after all that it reads, by one of the workers that were asked for
+  -- Where the gate still tells its list, it was told one entry for each block: the plan's loops and reads, the block's vectors, and
+  -- a journal. In the journal each loop ran once on each vector, after all that it reads, by one of the workers that were asked
+  -- for.
   pub told : RanBlocks s.workers p.loops p.reads s.vector lengths old new
   pub blocks_are : r.blocks ≡ length lengths
   pub loops_are : r.loops ≡ loops_in r.blocks p.loops

@@ -17,7 +17,7 @@ pub rising_numbers : (from k : ℕ) → IsStrictlyIncreasing (passing (λ _. tru
 rising_numbers from k i l = let n = long_numbers from k in let a = number_at from k i (omega arith) in
     let b = number_at from k (i + 1) (omega arith) in omega arith
 
--- the words behind the first do not see it
+-- the words after the first do not see it
 pub behind : (ns : List ℕ) (x y : ℕ) → slice_index (set ns 0 y) (1 + x) ≡ slice_index ns (1 + x)
 behind ns x y = ap (slice_index (set ns 0 y)) (let q : 1 + x ≡ suc x = omega arith in q) ∙ next ns x y
     ∙ ap (slice_index ns) (let q : suc x ≡ 1 + x = omega arith in q)

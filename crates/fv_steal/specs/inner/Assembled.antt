@@ -12,7 +12,7 @@ use Rattle.fv_steal.specs.declared.part.Part.{Part}
 use Rattle.fv_steal.specs.declared.worker.Worker.{Worker}
 use Rattle.fv_steal.specs.inner.Made.{puts_of, rests_of, HaveLent}
 
--- the part of worker i, with so much room
+-- the part of worker i, with this much room
 pub record IsPart {C : Type 0} (room most : ℕ) (deques : List TaskDeque) (victims : List (Vec Victim)) (i : ℕ) (p : Part C) : Type 0 where
   pub deque : (d : TaskDeque) → p.deque ≡ get_or deques i d
   pub holds : (d : Vec Victim) → p.victims ≡ get_or victims i d
@@ -37,7 +37,7 @@ pub record AreFrom {C : Type 0} (ps : List (Part C)) (seats : List (WorkerSeat C
   pub long : length ws + k ≡ length ps
   pub each : (i : ℕ) (d : Worker C) → i < length ws → IsFrom ps seats i (get_or ws i d)
 
--- The parts of a crew of so many workers, from the last on: the tasks that read no other were dealt to the deques, and then holds on
+-- The parts of a crew of N workers, from the last on: the tasks that read no other were dealt to the deques, and then holds on
 -- all of them were given out.
 pub record AreCrewParts {C : Type 0} (g : Tasks) (workers : ℕ) (ps : List (Part C)) : Type 0 where
   pub dealt_to : List TaskDeque
