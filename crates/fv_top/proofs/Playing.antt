@@ -56,7 +56,7 @@ pub coding_is : (head : Option Incoming) → coding_heard (option_map samples_of
 coding_is None = refl
 coding_is (Some h) = refl
 
--- a file whose samples are left to read has so many bytes
+-- a file whose samples are left to read has N bytes
 pub end_is : (head : Option Incoming) (held : Option (List ℕ)) (bytes left : List ℕ) (i : InputSamples) → IsLeft head held bytes left
     → option_map samples_of head ≡ Some i → held ≡ None → i.place + length left ≡ length bytes
 end_is None held bytes left i l is fresh = absurd cc
@@ -99,7 +99,7 @@ taken_none (Some i) held n before after none t = absurd (none refl)
 rows_few : (n m w : ℕ) → n ≤ m → n * w ≤ m * w
 rows_few n m w h = let e : n + (m - n) ≡ m = omega (arith, h) in subst (λ (x : ℕ). n * w ≤ x * w) e (omega arith)
 
--- of the frames that a head states no more than so many bytes are taken
+-- of the frames that a head states no more than N bytes are taken
 pub taken_within : (head : Option Incoming) (held : Option (List ℕ)) (bytes left new : List ℕ) (n : ℕ) → IsLeft head held bytes left
     → ForSome head (λ h. n ≤ stated_frames h) → AreTakenOf (option_map samples_of head) held n left new → IsWithin head bytes new
 taken_within None held bytes left new n l few t = tt
@@ -135,7 +135,7 @@ frame_some o head is range h named =
     let i = range (samples_of h) (is ∙ ap (option_map samples_of) named) in
     mul-pos i.some (width_some h.bits i.bits)
 
--- a file that ends within its whole frames has no byte behind them
+-- a file that ends within its whole frames has no byte after them
 pub end_rest : (head : Option Incoming) (bytes new : List ℕ) (n : ℕ) → ForSome head (λ h. n ≡ stated_frames h)
     → ForSome head (λ h. 0 < frame_size h.channels h.bits) → ForSome head (λ h. h.is_open ≡ false) → length (frames_of n head (data_of head bytes)) < n
     → new ≡ [] → IsRest head bytes new
@@ -191,7 +191,7 @@ pub record IsSized (d : Diagram) (f : Made) (h : OutputHead) : Type 0 where
   pub head : h ≡ output_head (outputs d) f
 
 module _ (d : Diagram) (c : ℕ → Stream) (f : Made) (head : OutputHead) (s : IsSized d f head) (X : List Frame) where
-  -- what is answered, behind a head of this size
+  -- what is answered, after a head of this size
   abbrev answer : (size : ℕ) → List ℕ
   answer size = output_of (record { coding = f.coding; channels = outputs d; rate = f.rate; bits = f.bits; size = size }) d c X
 
@@ -204,7 +204,7 @@ module _ (d : Diagram) (c : ℕ → Stream) (f : Made) (head : OutputHead) (s : 
   abbrev bytes : List ℕ
   bytes = flat_map (frame_bytes f.coding f.bits) (run d c no_slots X)
 
-  -- where all frames are there, with what stands behind their bytes
+  -- where all frames are there, with what follows their bytes
   pub file_whole : length X ≡ f.frames → output_of head d c X ++ pad_in f.coding f.size ≡ output_file d c (format_in f) X
   file_whole all =
       let same : (length X == f.frames) ≡ true = eq-eqb (length X) f.frames all in
@@ -237,7 +237,7 @@ streams_then k q = record {
 prefix_long : {xs ys : List ℕ} → IsPrefixOf xs ys → length xs ≤ length ys
 prefix_long {xs} p = let e = ap length p.is ∙ length-append xs p.rest in omega (arith, e)
 
--- under which streams of the controls it is played, and what stands behind the samples
+-- under which streams of the controls it is played, and what follows the samples
 abbrev pub controls_in : Compiled → Prepared → ℕ → Stream
 controls_in m p = control_streams p.script (initial_of m.controls)
 
@@ -272,7 +272,7 @@ module _ (m : Compiled) (p : Prepared) (can : CanRun m p) where
         subst (λ n. AreTakenOf p.tape.input held n (a.left Input) (e.left Input)) can.stated
         (subst (λ l. AreTakenOf p.tape.input held p.tape.stated (a.left Input) l) (sym (q.left (told_before k.streams.goes_on t) Input)) (k.taken t))
 
-    -- and what stands behind them was written
+    -- and what follows them was written
     pub run_whole : {e : DeskState} → Appends Output (pad_of p) b e → KeepsFaults b e → HasRun m p a e
     run_whole q steady = record {
       streams = streams_then k.streams q;

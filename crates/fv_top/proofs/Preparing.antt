@@ -135,7 +135,7 @@ stops_head {run} {p} {changes} {a} {b} {c} {e} w f =
       faults = load_faults a f (λ h. absurd cc) w.before;
     }
 
--- ---- behind the head
+-- ---- after the head
 
 module _ {run : Run} {p : Compiled} {changes : List Change} {head : Option Incoming} {held : Option (List ℕ)} {a b : DeskState}
     (w : AfterHead run p changes head held a b) where

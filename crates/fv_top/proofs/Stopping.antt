@@ -47,7 +47,7 @@ pub within_told : {kind : InputKind} {name : Option (List ℕ)} {files : List Fi
     → ReadsWithin kind name files (a.left Input) → ReadsWithin kind name files (b.left Input)
 within_told {kind} {name} {files} t q within = subst (ReadsWithin kind name files) (sym (q.left t Input)) within
 
--- where the whole frames were read, nothing was read behind them
+-- where the whole frames were read, nothing was read after them
 pub within_all : {kind : InputKind} {name : Option (List ℕ)} {files : List File} {left : List ℕ} → LeavesRest kind name files left
     → ReadsWithin kind name files left
 within_all {left = left} r = record { source = r.source; input = r.input; rest = within_of r.source.head r.source.bytes left r.rest }

@@ -54,7 +54,7 @@ no_channel : format_of coding.Wave none (Primitive Wire) None ≡ Err (Channels 
 unfolding none
 no_channel = refl
 
--- the same samples as an AU file, and its size where it is not stated
+-- an AU file with the three samples, whose head states their size
 au_samples : List ℕ
 au_samples =
     46 ∷ 115 ∷ 110 ∷ 100 ∷ 0 ∷ 0 ∷ 0 ∷ 24 ∷ 0 ∷ 0 ∷ 0 ∷ 6 ∷ 0 ∷ 0 ∷ 0 ∷ 3 ∷ 0 ∷ 0 ∷ 172 ∷ 68 ∷ 0 ∷ 0 ∷ 0 ∷ 1 ∷ 0 ∷ 1 ∷ 255 ∷ 254 ∷ 0 ∷ 3 ∷ []
@@ -73,7 +73,7 @@ au_to_wave : (run_meant (Primitive Wire) (control_streams [] []) format (frames_
 unfolding three_samples au_samples au_head format sample_at
 au_to_wave = refl
 
--- the same file with a size that is not stated has the samples that are there
+-- the AU file with a size that is not stated has the samples that are there
 open_file : file_source input.Either (take 8 au_samples ++ 255 ∷ 255 ∷ 255 ∷ 255 ∷ drop 12 au_samples)
     ≡ Ok (record {
       head = Some (record au_head { is_open = true });

@@ -36,7 +36,8 @@ struct Made {
     ran: Ran,
 }
 
-/// Makes a program of so many voices and so many frames of noise, has so many workers play it, and reports the sum of what it gives.
+/// Makes a program of `voices` voices, has `workers` workers play it on `frames` frames of noise, and reports the sum of what it
+/// gives.
 pub fn run_make<R: Threads + Wait + Sync, D: Desk, G: Gate + Sync>(
     rt: &R,
     alloc: Global,
@@ -52,7 +53,7 @@ pub fn run_make<R: Threads + Wait + Sync, D: Desk, G: Gate + Sync>(
     ensures done { OnOk result (Makes voices frames workers (D.state desk.old) (D.state desk.new)) }
     ensures ran { IfOk result (λ r. MakeRan voices frames workers r.blocks r.loops r.loop_runs (G.told gate.old) (G.told gate.new)) }
     ensures stops { IfErr result (StopsMake voices frames workers (D.state desk.old) (D.state desk.new)) }
-    // A report that fails comes behind all blocks, and every other refusal before them.
+    // A report that fails comes after all blocks, and every other refusal before them.
     ensures so_far { IfErr result (λ e. ((G.told gate.new ≡ G.told gate.old) × (e ≡ WriteFault Report → ⊥))
         ⊎ ((e ≡ WriteFault Report) × MakeSoFar voices frames workers (G.told gate.old) (G.told gate.new))) }
 {
@@ -86,7 +87,7 @@ fn made_sum<R: Threads + Wait + Sync, G: Gate + Sync>(
     Ok(made)
 }
 
-// What is played of the program of so many voices.
+// What is played of the program of `voices` voices.
 fn made_program(alloc: Global, voices: u32) -> Result<Playable, Refusal>
     requires some { 1 ≤ voices }
     requires few { voices ≤ MOST_VOICES }
@@ -94,13 +95,14 @@ fn made_program(alloc: Global, voices: u32) -> Result<Playable, Refusal>
     ensures one { IfOk result (λ p. p.inputs ≡ 1) }
     ensures none { IfErr result (λ e. e ≡ NoMemory) }
 {
+    // For the prover: the text of the voices is a program, so nothing but memory can be wanted.
     voices_are_a_program();
     let text = text_of(alloc, voices)?;
     let playable = read_playable(alloc, ProgramKind::Alone, &text)?;
     Ok(playable)
 }
 
-// The sum of what it gives on the noise of so many voices, which never stops.
+// The sum of what a program gives on the noise for `voices` voices, which never stops.
 fn sum_on_noise<R: Threads + Wait + Sync, G: Gate + Sync>(
     rt: &R,
     alloc: Global,
@@ -120,6 +122,7 @@ fn sum_on_noise<R: Threads + Wait + Sync, G: Gate + Sync>(
         m.ran (G.told gate.old) (G.told gate.new)) }
     ensures err { OnErr result (gate.new ≡ gate.old) }
 {
+    // For the prover: samples that are added one by one come to their sum.
     sums_add_up();
     let sizes = make_sizes(workers, frames);
     let ready = make_ready_graph(
@@ -162,7 +165,7 @@ fn sum_on_noise<R: Threads + Wait + Sync, G: Gate + Sync>(
     }
 }
 
-// The sizes of a make of so many frames, by so many workers.
+// The sizes of a make of `frames` frames, by `workers` workers.
 fn make_sizes(workers: u32, frames: u32) -> RunSizes
     ensures { result ≡ make_sizes workers frames }
 {

@@ -83,7 +83,7 @@ fn coding_heard(input: Option<InputSamples>) -> Coding
     }
 }
 
-// Writes what stands behind the samples.
+// Writes what follows the samples.
 fn end_file<D: Desk>(desk: &mut D, coding: Coding, size: u32) -> Result<(), WriteRefusal>
     ensures ok { OnOk result (Appends Output (pad_in coding size) (D.state desk.old) (D.state desk.new)) }
     ensures err { OnErr result (AppendsPart Output (pad_in coding size) (D.state desk.old) (D.state desk.new)) }

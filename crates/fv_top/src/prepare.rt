@@ -37,16 +37,24 @@ use fv_top_report::Refusal;
 use fv_top_words::{Run, Settings};
 use std::alloc::{AllocError, Global};
 
-/// What is ready to be played: a program's channels and controls, its script, all memory that it needs, and the tape of its files.
+/// What is ready to be played: all memory is taken, and nothing is written yet.
 #[derive(Drop)]
 pub struct Prepared<'a> {
+    /// How many inputs the program has, and samples a frame of the input.
     pub inputs: u32,
+    /// How many outputs the program has, and samples a frame of the output.
     pub outputs: u32,
+    /// The program's controls, by their numbers.
     pub controls: Vec<ControlInfo>,
+    /// The changes of the controls, in order.
     pub script: Script,
+    /// How the output is stored, and how many frames it has.
     pub format: OutputFormat,
+    /// How many frames the run, a block and a vector have, and how many workers there are.
     pub sizes: RunSizes,
+    /// The engine and the samples of a block.
     pub ready: Ready,
+    /// The tape of the input and the output.
     pub tape: FileTape<'a>,
 }
 

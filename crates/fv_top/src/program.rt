@@ -45,6 +45,7 @@ pub fn load_program<D: Desk>(
         (D.state desk.old) (D.state desk.new)) }
     ensures steady { (IsErrOf result (ReadFault program_role) → ⊥) → KeepsFaults (D.state desk.old) (D.state desk.new) }
 {
+    // For the prover: what the bytes up to one past the limit are, the whole file is.
     front_is_enough();
     let text = match read_front(alloc, desk, Role::Program, name, PROGRAM_BYTES) {
         Ok(text) => text,
@@ -70,6 +71,7 @@ pub fn load_playable<D: Desk>(
         (HasNoProgram (FileIs kind) name.now (D.state desk.old).files) (D.state desk.old) (D.state desk.new)) }
     ensures steady { (IsErrOf result (ReadFault program_role) → ⊥) → KeepsFaults (D.state desk.old) (D.state desk.new) }
 {
+    // For the prover: what the bytes up to one past the limit are, the whole file is.
     front_is_enough();
     let file = match read_front(alloc, desk, Role::Program, name, PROGRAM_BYTES) {
         Ok(file) => file,

@@ -119,8 +119,8 @@ pub fn run_faustvec<R: Threads + Wait + Sync, D: Desk, G: Gate + Sync>(
     ensures goes_on { GoesOn (D.state desk.old) (D.state desk.new) }
     // Nothing is read but the files that the words name for it, nothing written but the output and the report.
     ensures others { KeepsOthers (IsRead (map string_bytes words.now)) (D.state desk.old) (D.state desk.new) }
-    // A run that is done has asked for its files in order, and has written exactly the file whose samples are the stream
-    // function of the program's diagram, under its script and on its input; a check that is done has reported its numbers.
+    // A run that is done has asked for its files in order. It has written exactly the file whose samples are the stream function of
+    // the program's diagram, under its script and on its input. A check that is done has reported its numbers.
     ensures done { IfDone result (λ tally. HasDone (map string_bytes words.now) tally.frames (D.state desk.old) (D.state desk.new)) }
     // Of a rack that is done each job's outputs are what its own program answers alone.
     ensures jobs { IfDone result (λ tally. HasJobs (map string_bytes words.now) (D.state desk.old)) }
@@ -143,6 +143,8 @@ pub fn run_faustvec<R: Threads + Wait + Sync, D: Desk, G: Gate + Sync>(
     ensures exact { IsExact (map string_bytes words.now) result }
     ensures strict { IsStrict (map string_bytes words.now) (D.state desk.old) (D.state desk.new) result }
 {
+    // For the prover: a file is one program or is refused for one thing; a rack is its jobs side by side, and each answers as
+    // alone.
     one_file();
     racks_are_jobs();
     jobs_answer();

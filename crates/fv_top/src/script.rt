@@ -41,6 +41,7 @@ pub fn load_script<D: Desk>(
         (λ e. HasScript (option_copied name.entry) (D.state desk.old).files controls.now (Err e)) (D.state desk.old) (D.state desk.new)) }
     ensures steady { (IsErrOf result (ReadFault Controls) → ⊥) → KeepsFaults (D.state desk.old) (D.state desk.new) }
 {
+    // For the prover: what a script spells is in order, and of its controls.
     scripts_are_lawful();
     let name = match name {
         Some(name) => name,

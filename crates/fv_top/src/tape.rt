@@ -15,7 +15,7 @@ use fv_file_tape::{FileTape, InputSamples, OutputHead};
 use fv_top_files::{Incoming, Loaded, OutputFormat, frame_size};
 use std::alloc::{AllocError, Global};
 
-/// A tape from an input to an output of this name, with room for a block of so many frames.
+/// A tape from an input to an output of this name, with room for a block of `block` frames of `channels` samples.
 pub fn make_tape<'a>(
     alloc: Global,
     output: &'a str,

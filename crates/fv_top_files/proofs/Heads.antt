@@ -1,4 +1,4 @@
--- The head of an input, and the bytes behind it.
+-- The head of an input, and the bytes after it.
 use Rattle.std.proofs.Common.{◌≡◌, ℕ, ◌+◌, ◌-◌, ◌<◌, ◌≤◌, List, [], ◌++◌, length, take, drop, sym, ◌∙◌, ap, arith, refl}
 use Rattle.std.proofs.Common.{inl, inr, ⊎_elim, take_all, take_at, append_assoc, length-append}
 use Rattle.std.specs.Prelude.{IsTrue, Result, Ok, Err, Option, Some, None, is_none, true, false, bytes_eq, codes}
@@ -62,7 +62,7 @@ head_stops e p file (inr (inr m)) = inr (inr m)
 
 -- ---- what was taken before, and then
 
--- so many bytes of a file were taken, some of them before
+-- N bytes of a file were taken, some of them before
 pub record IsTaken (begun taken left new : List ℕ) (n : ℕ) : Type 0 where
   pub long : length begun + length taken ≡ n
   pub is : left ≡ taken ++ new

@@ -8,7 +8,7 @@ use Rattle.fv_top_files.specs.declared.format.OutputFormat.{OutputFormat as Made
 abbrev pub format_in : Made → OutputFormat
 format_in s = record { coding = s.coding; rate = s.rate; bits = s.bits; frames = s.frames }
 
--- the same as an answer
+-- a format, or why there is none, in the words of the definitions
 abbrev pub format_answered : Result Made Refusal → Result OutputFormat Refusal
 format_answered (Ok s) = Ok (format_in s)
 format_answered (Err e) = Err e

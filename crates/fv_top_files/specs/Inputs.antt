@@ -1,4 +1,4 @@
--- What calls say beside `headline/Inputs`: inputs of either kind: what their heads say, and the samples behind them (RIFF WAVE 1991; Sun
+-- What calls say beside `headline/Inputs`: inputs of either kind: what their heads say, and the samples after them (RIFF WAVE 1991; Sun
 -- audio; this project's profile).
 use Rattle.std.specs.Prelude.{◌≡◌, ◌^◌, ◌<◌, ◌≤◌, true}
 use Rattle.fv_diagram.specs.Limits.TheConstants.{MOST_CHANNELS}

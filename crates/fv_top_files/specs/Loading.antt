@@ -15,7 +15,7 @@ use Rattle.fv_top_report.specs.declared.refusal.Refusal.TheVariants.{ReadFault, 
 use Rattle.fv_top_report.specs.headline.Lines.{row_of}
 use Rattle.fv_top_files.specs.headline.Loading.{reading, IsThere, HasInput, is_of_head}
 
--- The desk was asked for this file alone, and nothing changed but the bytes left of the role, where a file is named, and its counts.
+-- The desk was asked for this file alone. Nothing changed but the bytes left of the role, where a file is named, and its counts.
 pub record ReadsFile (role : Role) (name : Option (List ℕ)) (old new : DeskState) : Type 0 where
   pub quiet : KeepsQuiet old new
   pub requests : new.requests ≡ old.requests ++ reading role name
@@ -28,7 +28,8 @@ pub record CannotRead (role : Role) (name : Option (List ℕ)) (old new : DeskSt
   pub fault : HasFault role old new
   pub unsure : IsTrue old.tells → IsUnfailing role old × IsThere name old.files → ⊥
 
--- A file could not be read, or it is refused, by a refusal of this kind, for what P says of it, or memory ran out.
+-- Why loading of a file stops: it could not be read, or memory ran out, or it is refused. Then the refusal is of this kind, and P
+-- says it of the file.
 abbrev pub StopsLoading : Role → (name : Option (List ℕ)) → (Kind P : Refusal → Type 0) → (old new : DeskState) → Refusal → Type 0
 StopsLoading role name Kind P old new refusal =
     ((refusal ≡ ReadFault role) × CannotRead role name old new) ⊎ (Kind refusal × (IsTrue old.tells → P refusal)) ⊎ (refusal ≡ NoMemory)

@@ -38,8 +38,8 @@ const USUAL_RATE: u32 = 44100;
 /// The bits of a sample where neither an input nor a word says so.
 const USUAL_BITS: u32 = 16;
 
-/// The format of the output of this kind that a program with so many inputs and outputs makes on an input with this head, or why it
-/// does not fit.
+/// The format of the output that a program of this arity makes on an input with this head, as a file of this kind; or why it does
+/// not fit.
 pub fn fit(
     arity: Arity,
     head: Option<Incoming>,

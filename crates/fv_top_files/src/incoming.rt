@@ -41,7 +41,7 @@ pub fn wave_incoming(head: Head) -> Incoming
     }
 }
 
-/// An input with the head of an AU file and so many bytes of samples, which the head may not state.
+/// An input with the head of an AU file and `data_bytes` bytes of samples, which the head may not state.
 pub fn au_incoming(head: AuHead, data_bytes: u32) -> Incoming
     ensures { result ≡ au_incoming head data_bytes }
 {

@@ -25,7 +25,8 @@ use fv_top_words::InputKind;
 use fv_wav::read_head_behind;
 use std::alloc::Global;
 
-/// What was read of an input before its samples are: its head, and its samples' bytes where only they say how many they are.
+/// What was read of an input before its samples are decoded: its head, and the bytes of its samples where only the file's end says
+/// how many they are.
 #[derive(Drop)]
 pub struct Loaded {
     pub head: Option<Incoming>,
@@ -85,7 +86,7 @@ fn load_file<D: Desk>(alloc: Global, desk: &mut D, kind: InputKind) -> Result<Lo
     }
 }
 
-// The same of a file that is AU where its first four bytes say so, else WAV.
+// The head of a file that is AU where its first four bytes say so, else WAV.
 #[tactic(auto, using(fv_outside::proofs::lemmas::States::steps))]
 fn load_either<D: Desk>(alloc: Global, desk: &mut D) -> Result<Loaded, Refusal>
     ensures takes { TakesSome Input (D.state desk.old) (D.state desk.new) }
@@ -111,7 +112,7 @@ fn load_either<D: Desk>(alloc: Global, desk: &mut D) -> Result<Loaded, Refusal>
     }
 }
 
-// That of a WAV file that begins with these bytes, which were taken.
+// The head of a WAV file that begins with these bytes, which were taken.
 #[tactic(auto, using(fv_outside::proofs::lemmas::States::steps))]
 fn load_wave<D: Desk>(desk: &mut D, begun: &[u8]) -> Result<Loaded, Refusal>
     requires { length begun.now ≤ 4 }
@@ -133,7 +134,7 @@ fn load_wave<D: Desk>(desk: &mut D, begun: &[u8]) -> Result<Loaded, Refusal>
     })
 }
 
-// That of an AU file that begins with these bytes, which were taken.
+// The head of an AU file that begins with these bytes, which were taken.
 #[tactic(auto, using(fv_outside::proofs::lemmas::States::steps))]
 fn load_au<D: Desk>(alloc: Global, desk: &mut D, begun: &[u8]) -> Result<Loaded, Refusal>
     requires few { length begun.now ≤ 4 }

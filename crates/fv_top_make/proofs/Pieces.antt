@@ -175,7 +175,7 @@ abbrev pub bytes_of : List (List ℕ) → List ℕ → List ℕ
 bytes_of [] rest = rest
 bytes_of (t ∷ ts) rest = t ++ bytes_of ts rest
 
--- how many brackets are open behind them
+-- how many brackets are open after them
 abbrev pub depth_behind : ℕ → List (List ℕ) → ℕ
 depth_behind depth [] = depth
 depth_behind depth (t ∷ ts) = depth_behind (depth_after depth t) ts

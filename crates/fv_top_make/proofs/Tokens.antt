@@ -1,4 +1,4 @@
--- The tokens of the text of so many voices.
+-- The tokens of the text of N voices.
 use Rattle.std.proofs.Common.{◌≡◌, ℕ, ◌≤◌, true, List, [], ◌∷◌, ◌++◌, length, codes, Some}
 use Rattle.std.proofs.Common.{refl, sym, subst, arith, length-append, ne_eqb}
 use Rattle.std.specs.List.{list_all}
@@ -23,13 +23,13 @@ before =
     codes "process" ∷ codes " " ∷ codes "=" ∷ codes " " ∷ codes "_" ∷ codes " " ∷ codes "<:" ∷ codes " " ∷
     codes "par" ∷ codes "(" ∷ codes "i" ∷ codes "," ∷ []
 
--- and behind it
+-- and after it
 abbrev pub behind : List (List ℕ)
 behind =
     codes "," ∷ codes "v" ∷ codes "(" ∷ codes "i" ∷ codes ")" ∷ codes ")" ∷ codes " " ∷ codes ":>" ∷ codes " " ∷
     codes "_" ∷ codes ";" ∷ codes "\n" ∷ []
 
--- the text behind it
+-- the text after it
 abbrev pub text_behind : List ℕ
 text_behind = codes ",v(i)) :> _;\n"
 

@@ -22,7 +22,7 @@ body = Binary 43 Recursion (Primitive 43 (primitives.Point ops.Add)) (Group 41 (
     (Apply 31 (Primitive 31 (primitives.Point ops.Mul)) (More (Binary 29 (Infix (primitives.Point ops.Add)) (Named 29 19) (Number 27 3)) End))
     (Apply 24 (Primitive 24 (primitives.Point ops.Div)) (More (Number 22 8) End)))))
 
--- `v(i)`, behind the number of voices
+-- `v(i)`, after the number of voices
 abbrev pub one_voice : Tree
 one_voice = Apply 8 (Named 8 40) (More (Named 6 42) End)
 

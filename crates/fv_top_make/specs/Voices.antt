@@ -1,4 +1,4 @@
--- The program that the text of so many voices is (this project's profile).
+-- The program that the text of N voices is (this project's profile).
 use Rattle.std.specs.Prelude.{◌≡◌, ℕ, zero, suc, ◌+◌, ◌-◌, ◌*◌, ◌≤◌, [], pos}
 use Rattle.fv_lex.specs.Limits.TheConstants.{MOST_VOICES}
 use Rattle.fv_interval.specs.Op.TheVariants as op
@@ -19,12 +19,12 @@ by p n = Seq (Par (Primitive Wire) (Constant (pos n))) (Primitive p)
 abbrev pub voice : ℕ → Diagram
 voice i = Rec (Primitive (Point op.Add)) (Seq (by Delay (i * 37 + 1)) (Seq (by (Point op.Mul) (i + 3)) (by (Point op.Div) 8)))
 
--- voice i, and so many more behind it, side by side
+-- voice i, and N more after it, side by side
 abbrev pub voices_from : ℕ → ℕ → Diagram
 voices_from i zero = voice i
 voices_from i (suc k) = Par (voice i) (voices_from (suc i) k)
 
--- so many voices on one input, added up, without controls
+-- N voices on one input, added up, without controls
 abbrev pub program_of : ℕ → Compiled
 program_of voices = record { diagram = Split (Primitive Wire) (Merge (voices_from 0 (voices - 1)) (Primitive Wire)); controls = [] }
 
@@ -32,10 +32,10 @@ program_of voices = record { diagram = Split (Primitive Wire) (Merge (voices_fro
 abbrev pub VoicesAreAProgram : Type 0
 VoicesAreAProgram = (voices : ℕ) → 1 ≤ voices → voices ≤ MOST_VOICES → IsProgram (text_of voices) (program_of voices)
 
--- It is no other one.
+-- The text of each number of voices that can be asked for is no other program.
 abbrev pub VoicesAreOneProgram : Type 0
 VoicesAreOneProgram = (voices : ℕ) (p : Compiled) → 1 ≤ voices → voices ≤ MOST_VOICES → IsProgram (text_of voices) p → p ≡ program_of voices
 
--- And it is refused for nothing.
+-- The text of each number of voices that can be asked for is refused for nothing.
 abbrev pub VoicesAreNotRefused : Type 0
 VoicesAreNotRefused = (voices : ℕ) (refusal : Refusal) → 1 ≤ voices → voices ≤ MOST_VOICES → IsRefusedText (text_of voices) refusal → ⊥

@@ -1,4 +1,4 @@
-//! What `make` runs: the text of a program of so many voices, and which program that text is; the noise that it hears, and the sum of
+//! What `make` runs: the text of a program of some voices, and which program that text is; the noise that it hears, and the sum of
 //! what it gives.
 #![tactic(auto)]
 
@@ -16,7 +16,7 @@ pub use noise_tape::{Noise, NoiseTape};
 use std::alloc::{AllocError, Global};
 pub use voices::voices_are_a_program;
 
-/// The text of a program of so many voices, two lines.
+/// The text of a program of `voices` voices: two lines.
 pub fn text_of(alloc: Global, voices: u32) -> Result<Vec<u8>, AllocError>
     ensures { IfOk result (λ v. v.items ≡ text_of voices) }
 {
@@ -28,7 +28,7 @@ pub fn text_of(alloc: Global, voices: u32) -> Result<Vec<u8>, AllocError>
     Ok(text)
 }
 
-// The state of the noise behind this one.
+// The state of the noise after this one.
 pub(crate) fn next_state(state: i32) -> i32
     ensures { result ≡ next_state state }
 {

@@ -1,4 +1,4 @@
-// The program that `make` makes: which one the text of so many voices is.
+// The program that `make` makes: which one the text of some voices is.
 
 ghost use Rattle.fv_top_make.specs.Voices.{VoicesAreAProgram, VoicesAreOneProgram, VoicesAreNotRefused};
 
@@ -13,6 +13,7 @@ pub fn voices_are_a_program()
     ensures one { VoicesAreOneProgram }
     ensures accepted { VoicesAreNotRefused }
 {
+    // The tokens of the text spell one tree, its literals are the numbers, and a text is one program.
     reads_what_is_spelled();
     literals_stay();
     one_program();

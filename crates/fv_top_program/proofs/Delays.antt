@@ -1,4 +1,4 @@
--- The delays of parts side by side are those of each part, one part behind another.
+-- The delays of parts side by side are those of each part, one part after another.
 use Rattle.std.proofs.Common.{◌≡◌, ℕ, zero, suc, ◌+◌, ◌<◌, ◌≤◌, List, [], ◌∷◌, ◌++◌, length, take}
 use Rattle.std.proofs.Common.{drop, refl, sym, ap, ap₂, ◌∙◌, arith, pos, append_assoc, append-nil}
 use Rattle.std.specs.Prelude.{flat_map, max}

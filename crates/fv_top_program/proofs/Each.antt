@@ -12,7 +12,7 @@ use Rattle.fv_top_program.specs.Program.{IsSomeText}
 use Rattle.fv_top_program.proofs.lemmas.AnswerLaws.{then_once, then_some, turned_once, turned_some}
 use Rattle.fv_top_program.specs.headline.Racks.{EachIs, WithFirst, refused_job, with_first}
 
--- what was answered first, and behind it
+-- what was answered first, and after it
 pub then_parts : {X A B E : Type 0} (P : X → Result A E → Type 0) (Q : A → Result B E → Type 0) (x : X) (b : B) (r : Result B E) → r ≡ Ok b → Then P Q x r
     → (a : A) × P x (Ok a) × Q a (Ok b)
 then_parts P Q x b r is (stops f h) = absurd cc
@@ -39,9 +39,9 @@ each_some some k (text ∷ texts) u =
     (turned_some (refused_job k) (λ (t : List ℕ). Unit {0}) TextIs some)
     (λ t p v h. (with_first p rest.0, record { behind = rest.0; is_behind = rest.1; is = refl })) text tt
 
--- ---- texts behind others
+-- ---- texts after others
 
--- the programs of first texts, and what those behind them are
+-- the programs of first texts, and what those after them are
 abbrev pub behind : List Compiled → Result (List Compiled) Refusal → Result (List Compiled) Refusal
 behind ps (Ok qs) = Ok (ps ++ qs)
 behind ps (Err e) = Err e

@@ -34,7 +34,7 @@ IsSomeText = IsSome (λ (text : List ℕ). Unit {0}) TextIs
 abbrev pub IsOneOrOther : Type 0
 IsOneOrOther = RefusesOthers TextIs
 
--- So many bytes of a text are read: one more than its limit shows that it is too long.
+-- how many bytes of a text are read: one more than its limit shows that it is too long
 abbrev pub bytes_read : ℕ
 bytes_read = LONGEST_TEXT + 1
 

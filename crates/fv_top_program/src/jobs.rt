@@ -33,6 +33,7 @@ pub fn read_rack(alloc: Global, file: &[u8]) -> Result<Vec<Read>, Refusal>
     ensures few { IfOk result (λ v. length v.items ≤ MOST_JOBS) }
     ensures refused { IfErr result (λ e. (e ≡ NoMemory) ⊎ (IsOfKind kinds.Rack e × RackIs file.now (Err e))) }
 {
+    // For the prover: programs side by side have the inputs and outputs of all.
     parts_are_whole();
     let jobs = Jobs::read(alloc, file)?;
     let reads = read_jobs(alloc, &jobs)?;

@@ -1,5 +1,5 @@
-//! What the file of a program is: a text (its tokens, their tree, the tree's value, its channels and its delays), or a file of jobs whose
-//! programs are played side by side. And what is played of it: its graph, its channels and its controls.
+//! What the file of a program is: a text, or a file of jobs whose programs are played side by side. A text has its tokens, their
+//! tree, the tree's value, its channels and its delays. And what is played of it: its graph, its channels and its controls.
 #![tactic(auto)]
 
 mod jobs;

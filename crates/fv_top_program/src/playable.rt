@@ -84,7 +84,7 @@ pub(crate) fn graph_of(alloc: Global, read: &Read) -> Result<Graph, AllocError>
     compile(alloc, &source)
 }
 
-// The same controls.
+// A copy of the controls.
 fn copied(alloc: Global, controls: &[ControlInfo]) -> Result<Vec<ControlInfo>, AllocError>
     ensures { IfOk result (λ v. v.items ≡ controls.now) }
 {
@@ -96,7 +96,7 @@ fn copied(alloc: Global, controls: &[ControlInfo]) -> Result<Vec<ControlInfo>, A
     Ok(all)
 }
 
-// The same control.
+// A copy of a control.
 fn copy_of(alloc: Global, control: &ControlInfo) -> Result<ControlInfo, AllocError>
     ensures { IfOk result (λ (c : Control). c ≡ control.now) }
 {

@@ -24,6 +24,7 @@ pub(crate) fn rack(alloc: Global, reads: &[Read]) -> Result<Playable, AllocError
     requires plays { CanPlay (rack_of (programs_in reads.now)) }
     ensures { IfOk result (IsPlayable (rack_of (programs_in reads.now))) }
 {
+    // For the prover: the joined graphs are a graph of the diagrams side by side, which have the inputs and outputs of all.
     joined_is_graph();
     parts_are_whole();
     let jobs = jobs_of(alloc, reads)?;

@@ -15,14 +15,17 @@ pub fn one_file()
     ensures some { IsSomeFile }
     ensures either { IsOneOrOther }
 {
+    // A file of one program is a text.
     one_program();
 }
 
-/// A file of which no more than one byte past its limit was read is what is read of it.
+/// The bytes of a file up to one past its limit are the program, or are refused, as the whole file is. Where they are a program,
+/// they are the whole file.
 pub fn front_is_enough()
     ensures same { FrontIsEnough }
     ensures whole { ProgramIsWhole }
 {
+    // A file of one program is a text; another is a file of jobs.
     crate::text_laws::front_is_enough();
     fv_jobs::front_is_enough();
 }
@@ -32,12 +35,13 @@ pub fn racks_are_jobs()
     ensures { RacksAreJobs }
 {}
 
-/// A job answers, beside the others, what its program answers alone; so it is the same in every run that agrees on its text, its
+/// A job answers beside the others what its program answers alone. So it answers the same in every run that agrees on its text, its
 /// columns and its changes.
 pub fn jobs_answer()
     ensures answer { JobsAnswer }
     ensures agree { RunsAgree }
 {
+    // A job's outputs are those of its part, which depend on its own columns and changes alone; and its program can run.
     answers_alike();
     jobs_hear_their_changes();
     parts_answer();

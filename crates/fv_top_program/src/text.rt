@@ -53,7 +53,7 @@ fn check_arity(program: &Program) -> Result<(), Refusal>
     check_channels(arity.inputs, arity.outputs)
 }
 
-/// Whether so many inputs and outputs can be the channels of files.
+/// Whether `inputs` inputs and `outputs` outputs can be the channels of files.
 pub fn check_channels(inputs: u32, outputs: u32) -> Result<(), Refusal>
     ensures ok { OnOk result ((p : Compiled) → with_channels inputs outputs p ≡ Ok p) }
     ensures some { OnOk result (1 ≤ outputs) }

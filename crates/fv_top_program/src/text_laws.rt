@@ -12,12 +12,14 @@ pub fn one_program()
     ensures some { IsSomeText }
     ensures either { IsOneOrOther }
 {
+    // A text has one list of tokens or one refusal, these spell at most one tree, and that has one outcome.
     one_answer();
     spelled_once();
     one_outcome();
 }
 
-/// A text of which no more than one byte past its limit was read is what is read of it.
+/// The bytes of a text up to one past its limit are the program, or are refused, as the whole text is. Where they are a program,
+/// they are the whole text.
 pub fn front_is_enough()
     ensures same { FrontIsEnough }
     ensures whole { ProgramIsWhole }

@@ -18,7 +18,7 @@ part_before ys p = (p.0, record { rest = p.1.rest ++ ys; is = ap (λ w. w ++ ys)
 pub part_behind : {role : Role} {xs ys : List ℕ} {a b c : DeskState} → Appends role xs a b → AppendsPart role ys b c → AppendsPart role (xs ++ ys) a c
 part_behind {xs = xs} p q = (xs ++ q.0, record { rest = q.1.rest; is = ap (λ w. xs ++ w) q.1.is ∙ sym (append_assoc xs q.0 q.1.rest) }, appends_then p q.2)
 
--- nothing behind the last piece
+-- nothing after the last piece
 pub last_piece : {role : Role} {xs : List ℕ} {a b : DeskState} → Appends role xs a b → Appends role (xs ++ []) a b
 last_piece {role} {b = b} p = appends_then p (appends_nothing role b)
 
@@ -32,7 +32,7 @@ pub err_as : (r : Result (Unit {0}) Failed) {xs ys : List ℕ} (a b : DeskState)
     → OnErr r (AppendsPart Report ys a b)
 err_as r a b is h = subst (λ (w : List ℕ). OnErr r (AppendsPart Report w a b)) is h
 
--- a report of so many bytes is answered where no call fails and there is room
+-- a report of N bytes is answered where no call fails and there is room
 abbrev pub IsAnsweredWith : Result (Unit {0}) Failed → DeskState → List ℕ → Type 0
 IsAnsweredWith r a w = IsTrue a.tells → IsUnfailing Report a → length (a.written Report) + length w ≤ a.room Report → IsOk r
 

@@ -4,7 +4,7 @@ use Rattle.fv_interval.specs.declared.refusal.DelayRefusal.TheVariants as delay
 use Rattle.fv_top_report.specs.declared.refusal.Refusal.{Refusal}
 use Rattle.fv_top_report.specs.declared.refusal.Refusal.TheVariants as no
 
--- and those of its delays
+-- the refusals of a program's delays, as those of a run
 abbrev pub of_delay : DelayRefusal → Refusal
 of_delay (delay.DelayNegative least) = no.DelayNegative least
 of_delay (delay.DelayTooLong greatest) = no.DelayTooLong greatest

@@ -13,7 +13,7 @@ pub struct Row<'a> {
     pub fields: Fields<'a>,
 }
 
-/// What stands behind the name.
+/// What follows the name.
 #[derive(Clone, Copy)]
 pub enum Fields<'a> {
     None,

@@ -85,7 +85,7 @@ pub enum Refusal {
     },
     /// No outermost definition is of `process`.
     NoProcess,
-    /// A diagram would have so many nodes, more than 16,384.
+    /// A diagram would have `size` nodes, more than 16,384.
     SizeBudget {
         size: u32,
     },
@@ -104,7 +104,7 @@ pub enum Refusal {
         line: u32,
         column: u32,
     },
-    /// An iteration is to be made so often, less than once.
+    /// An iteration is to be made `count` times, less than once.
     IterationCount {
         count: i32,
     },
@@ -118,7 +118,7 @@ pub enum Refusal {
         line: u32,
         column: u32,
     },
-    /// A diagram with so many inputs is applied to more outputs.
+    /// A diagram with `inputs` inputs is applied to arguments with `given` outputs, which are more.
     TooManyArguments {
         given: u64,
         inputs: u64,
@@ -137,7 +137,7 @@ pub enum Refusal {
     TableForm {
         cause: TableCause,
     },
-    /// The waveforms and tables of the program would cost so much together, more than 16,777,216.
+    /// The waveforms and tables of the program would cost `sum` together, more than 16,777,216.
     TableBudget {
         sum: u64,
     },
@@ -153,7 +153,7 @@ pub enum Refusal {
     DelayBudget {
         sum: u64,
     },
-    /// There are so many channels, where others are wanted.
+    /// There are `have` channels, where `want` are wanted or are the most.
     Channels {
         have: u32,
         want: u32,
@@ -162,15 +162,15 @@ pub enum Refusal {
     ControlLine {
         line: u32,
     },
-    /// It names no control.
+    /// A line of the script names no control of the program.
     ControlUnknown {
         line: u32,
     },
-    /// Its value is outside the control's range.
+    /// A line of the script has a value outside the control's range.
     ControlRange {
         line: u32,
     },
-    /// Its frame is before that of an earlier line.
+    /// A line of the script has a frame before that of an earlier line.
     ControlOrder {
         line: u32,
     },
@@ -178,19 +178,19 @@ pub enum Refusal {
     NotWave {
         place: u64,
     },
-    /// It ends before a byte that is needed.
+    /// The WAV file ends before a byte that is needed.
     WaveTruncated {
         place: u64,
     },
-    /// It is not of a form that can be read.
+    /// The WAV file is not of a form that can be read.
     WaveFormat {
         place: u64,
     },
-    /// Too many chunks stand before its samples.
+    /// Too many chunks stand before the samples of the WAV file.
     WaveChunks {
         place: u64,
     },
-    /// The output would have so many bytes of samples, more than a head can state.
+    /// The output would have `bytes` bytes of samples, more than a head can state.
     OutputTooLong {
         bytes: u64,
     },
@@ -207,7 +207,7 @@ pub enum Refusal {
     AuFormat {
         place: u64,
     },
-    /// It ends before a byte that is needed.
+    /// The AU file ends before a byte that is needed.
     AuTruncated {
         place: u64,
     },
@@ -216,7 +216,7 @@ pub enum Refusal {
         job: u64,
         number: u32,
     },
-    /// The file has so many jobs, more than 16.
+    /// The file has `jobs` jobs, more than 16.
     RackSize {
         jobs: u64,
     },

@@ -47,7 +47,7 @@ lacks : (w : List ℕ) → nat_lt (place w) (length w) ≡ false → list_all di
 lacks [] h = refl
 lacks (b ∷ w) h = lacks_by b w (is_equals b) (lacks w) refl h
 
--- its place behind bytes that are none
+-- its place after bytes that are none
 behind_by : (b : ℕ) (n w : List ℕ) (t : Bool) → (list_all differs n ≡ true → place (n ++ w) ≡ length n + place w) → is_equals b ≡ t →
     list_all differs (b ∷ n) ≡ true
     → place (b ∷ (n ++ w)) ≡ suc (length n) + place w

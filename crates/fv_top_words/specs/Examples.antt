@@ -9,7 +9,7 @@ use Rattle.fv_top_words.specs.headline.Pieces.{cut, Plain, Given}
 use Rattle.fv_top_words.specs.headline.Runs.{Settings, default_vector, wave_files}
 use Rattle.fv_top_words.specs.headline.Commands.{Job, Playing, Checking, Making, job_in}
 
--- of these words behind the program's own name
+-- of these words after the program's own name
 abbrev asked : List (List ℕ) → Result Job Cause
 asked words = job_in (codes "faustvec" ∷ words)
 

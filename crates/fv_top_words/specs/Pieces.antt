@@ -1,4 +1,4 @@
--- What calls say beside `headline/Pieces`: the words behind the command word, cut into names and options (this project's profile).
+-- What calls say beside `headline/Pieces`: the words after the command word, cut into names and options (this project's profile).
 use Rattle.std.specs.Prelude.{◌≡◌, ◌≢◌, ℕ, true, false, not, List, []}
 use Rattle.std.specs.Prelude.{◌∷◌, ◌++◌, map, Some, None, codes}
 use Rattle.std.specs.List.{list_all}

@@ -85,7 +85,7 @@ finished r ws = option_and_then (gathered r.texts) (pieces_from r.state ws)
 abbrev pub numbers_in : Found → Numbers
 numbers_in n = record { block = n.block; vector = n.vector; workers = n.workers; bits = n.bits; frames = n.frames; rate = n.rate }
 
--- the same as an answer
+-- the numbers of the options, or the cause to refuse it, in the words of the definitions
 abbrev pub numbers_answered : Result Found Cause → Result Numbers Cause
 numbers_answered (Ok n) = Ok (numbers_in n)
 numbers_answered (Err e) = Err e
@@ -94,7 +94,7 @@ numbers_answered (Err e) = Err e
 abbrev pub settings_in : How → Settings
 settings_in s = record { block = s.block; vector = s.vector; workers = s.workers; bits = s.bits; frames = s.frames; rate = s.rate }
 
--- the same as an answer
+-- how a run is done, or the cause to refuse it, in the words of the definitions
 abbrev pub settings_answered : Result How Cause → Result Settings Cause
 settings_answered (Ok s) = Ok (settings_in s)
 settings_answered (Err e) = Err e
@@ -110,7 +110,7 @@ run_in r = record {
   manner = r.manner;
 }
 
--- the same as an answer
+-- a run, or the cause to refuse it, in the words of the definitions
 abbrev pub run_answered : Result Runs Cause → Result Run Cause
 run_answered (Ok r) = Ok (run_in r)
 run_answered (Err e) = Err e
@@ -121,7 +121,7 @@ job_view (jobs.Run run) = Playing (run_in run)
 job_view (jobs.Check program) = Checking program.now
 job_view (jobs.Make voices frames workers) = Making voices frames workers
 
--- the same as an answer
+-- what is asked for, or the cause to refuse it, in the words of the definitions
 abbrev pub job_answered : Result Jobs Cause → Result Job Cause
 job_answered (Ok j) = Ok (job_view j)
 job_answered (Err e) = Err e

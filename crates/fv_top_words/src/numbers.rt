@@ -11,11 +11,17 @@ use fv_base::decimal_of;
 /// The numbers of the options that are given.
 #[derive(Clone, Copy)]
 pub struct Numbers {
+    /// The most frames of a block.
     pub block: Option<u64>,
+    /// The frames of a vector.
     pub vector: Option<u64>,
+    /// How many workers run each block.
     pub workers: Option<u64>,
+    /// The bits of the output's samples.
     pub bits: Option<u64>,
+    /// How many frames the run has.
     pub frames: Option<u64>,
+    /// The frames a second.
     pub rate: Option<u64>,
 }
 

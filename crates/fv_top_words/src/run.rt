@@ -19,13 +19,17 @@ use fv_base::limits::{MOST_BLOCK, MOST_VECTORS, MOST_WORKERS};
 /// A run: its files, and how it is done.
 #[derive(Clone, Copy)]
 pub struct Run<'a> {
+    /// The name of the program's file.
     pub program: &'a str,
     /// Nothing for a program without inputs.
     pub input: Option<&'a str>,
+    /// The name of the output's file.
     pub output: &'a str,
     /// The control script.
     pub controls: Option<&'a str>,
+    /// Its numbers.
     pub settings: Settings,
+    /// Of which kinds its files are.
     pub manner: Manner,
 }
 
@@ -41,6 +45,7 @@ pub fn run_of<'a>(texts: &Texts<'a>) -> Result<Run<'a>, Cause>
     ensures run { run_answered result ≡ run_of (texts_in texts.now) }
     ensures ranges { IfOk result (λ r. AreValid (settings_in r.settings)) }
 {
+    // For the prover: the settings that are made have each number in its range.
     settings_keep_ranges();
     let Plain::Three(program, input, output) = texts.plain else {
         return Err(Cause::Form);
@@ -63,7 +68,7 @@ pub fn run_of<'a>(texts: &Texts<'a>) -> Result<Run<'a>, Cause>
     })
 }
 
-/// The same run where its files may be AU files: the input by its first bytes, and the output by its name.
+/// Lets a run's files be AU files: the input by its first bytes, and the output by its name.
 pub fn by_kinds(run: Run<'_>) -> Run<'_>
     ensures { run_in result ≡ by_kinds (run_in run.entry) }
 {
@@ -77,7 +82,7 @@ pub fn by_kinds(run: Run<'_>) -> Run<'_>
     }
 }
 
-/// The same run where its program's file is a file of jobs.
+/// Lets a run's program be a file of jobs.
 pub fn of_jobs(run: Run<'_>) -> Run<'_>
     ensures { run_in result ≡ of_jobs (run_in run.entry) }
 {

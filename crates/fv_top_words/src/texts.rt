@@ -16,18 +16,26 @@ pub enum Plain<'a> {
     Three(&'a str, &'a str, &'a str),
 }
 
-/// The words behind the command word, as they are spelled.
+/// The words after the command word, as they are spelled.
 #[derive(Clone, Copy)]
 pub struct Texts<'a> {
+    /// The words that are no options.
     pub plain: Plain<'a>,
     /// Whether an option is given.
     pub has_options: bool,
+    /// The value of the option for the control script.
     pub controls: Option<&'a str>,
+    /// The value of the option for the most frames of a block.
     pub block: Option<&'a str>,
+    /// The value of the option for the frames of a vector.
     pub vector: Option<&'a str>,
+    /// The value of the option for the number of workers.
     pub workers: Option<&'a str>,
+    /// The value of the option for the bits of the output's samples.
     pub bits: Option<&'a str>,
+    /// The value of the option for the number of frames.
     pub frames: Option<&'a str>,
+    /// The value of the option for the frames a second.
     pub rate: Option<&'a str>,
 }
 

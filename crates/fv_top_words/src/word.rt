@@ -10,7 +10,7 @@ ghost use Rattle.fv_top_words.specs.Views.{kind_in};
 pub enum Kind<'a> {
     /// A name or a number.
     Plain,
-    /// `--`: no option stands behind it.
+    /// `--`: no option stands after it.
     Ends,
     /// An option whose value is the next word.
     Apart,

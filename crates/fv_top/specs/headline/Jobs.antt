@@ -20,7 +20,7 @@ pub record PlaysJobs {run : Run} {files : List File} (p : Plays run files) : Typ
   pub frames : jobs.frames ≡ present_in p.format p.source
   pub alone : AnswerAlone jobs
 
--- where the words ask for a rack
+-- what is played of a rack, where the words ask for one
 abbrev pub HasJobs : (words : List (List ℕ)) → DeskState → Type 0
 HasJobs words old =
     (run : Run) → Asks words (Playing run) → run.manner.program ≡ Rack → IsTrue old.tells → (p : Plays run old.files) → PlaysJobs p

@@ -14,25 +14,26 @@ use Rattle.fv_top_program.specs.headline.Program.{delay_in}
 use Rattle.fv_engine_render.specs.headline.Render.{initial_of}
 use Rattle.fv_top_program.specs.headline.Compiled.{Compiled}
 
--- the frames that it counts, the bytes of the output, if it writes one, and the line that it reports
+-- What something that is done means: the frames that it counts, the bytes of the output, if it writes one, and the line that it
+-- reports.
 pub record Meant : Type 0 where
   pub frames : ℕ
   pub output : Option (List ℕ)
   pub line : List ℕ
 
--- that of a diagram on the frames that are present, of those that the format counts
+-- what a run of a diagram means: the frames that the format counts, and the output that the diagram makes on those that are present
 abbrev pub run_meant : Diagram → (c : ℕ → Stream) → OutputFormat → (present : List Frame) → Meant
 run_meant d c format present = record { frames = format.frames; output = Some (output_file d c format present); line = done_line format.frames }
 
--- that of a program that is checked
+-- what a check of a program means
 abbrev pub check_meant : Compiled → Meant
 check_meant p = record { frames = 0; output = None; line = check_line (inputs p.diagram) (outputs p.diagram) (length p.controls) (size p.diagram) (delay_in p) }
 
--- what a program gives on the noise of so many voices, added up
+-- what a program gives on the noise for this many voices, added up
 abbrev pub made_sum : Compiled → (voices frames : ℕ) → ℤ
 made_sum p voices frames = sum_of (answer_on p.diagram (control_streams [] (initial_of p.controls)) frames (noise_of voices frames))
 
--- that of a program that is made, and played on its noise
+-- what a make means: a program that is made, and played on its noise
 abbrev pub make_meant : Compiled → (voices frames : ℕ) → Meant
 make_meant p voices frames = record { frames = frames; output = None; line = made_line voices frames (made_sum p voices frames) }
 

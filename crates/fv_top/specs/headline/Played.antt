@@ -22,7 +22,7 @@ use Rattle.fv_top.specs.headline.Meant.{written_by}
 use Rattle.fv_top.specs.headline.Promise.{Asks, Plays, IsMade, meant_to}
 use Rattle.fv_pcm.specs.declared.coding.Coding.{Coding}
 
--- what is played: a program under these changes of its controls, so many frames, in blocks and vectors of these sizes
+-- what is played: a program under these changes of its controls, in blocks and vectors of these sizes
 pub record Played : Type 0 where
   pub program : Compiled
   pub changes : List Change
@@ -32,12 +32,12 @@ pub record Played : Type 0 where
 abbrev pub sizes_of : Settings → (frames : ℕ) → RunSizes
 sizes_of s frames = record { frames = frames; block = s.block; vector = s.vector; workers = s.workers }
 
--- and those of a make by so many workers
+-- the sizes of a make of this many frames by this many workers
 abbrev pub make_sizes : (workers frames : ℕ) → RunSizes
 make_sizes workers frames = record { frames = frames; block = 256; vector = 32; workers = workers }
 
--- This is what is played: of a run, where the desk tells its files, their program under their script, as many frames as are
--- stated; of a make the program of so many voices.
+-- This is what is played. Of a run it is the files' program under their script, as many frames as are stated, where the desk tells
+-- its files. Of a make it is the program of its voices.
 abbrev pub IsPlayed : Job → DeskState → Played → Type 0
 IsPlayed (Playing run) old x =
     (x.sizes ≡ sizes_of run.settings x.sizes.frames)
@@ -46,7 +46,8 @@ IsPlayed (Playing run) old x =
 IsPlayed (Checking name) old x = ⊥
 IsPlayed (Making voices frames workers) old x = (x.sizes ≡ make_sizes workers frames) × (x.changes ≡ []) × IsMade voices x.program
 
--- Its blocks up to a frame ran: in each of them each loop of a plan of the program ran once on each vector, after all that it reads.
+-- The blocks of what is played ran up to a frame: in each of them each loop of a plan of the program ran once on each vector, after
+-- all that it reads.
 pub record HaveRan (job : Job) (old : DeskState) (upto : ℕ) (r : Ran) (before after : Option Told) : Type 0 where
   pub played : Played
   pub is : IsPlayed job old played
@@ -67,9 +68,9 @@ pub record HasBlocks (words : List (List ℕ)) (t : Tally) (old : DeskState) (be
   pub asks : Asks words job
   pub blocks : BlocksOf job t old before after
 
--- Where a run is refused, its blocks ran up to this frame: all of them, where the report failed; those that lie wholly within the
--- frames that are present, where its input ends too early; those whose samples the output has, where the input failed; and where the
--- output failed after it was begun, it has a part of what these blocks make, from its front.
+-- Up to which frame the blocks of a refused run ran. Where the report failed, all of them ran. Where the input ends too early,
+-- those ran that lie wholly within the frames that are present. Where the input failed, those ran whose samples the output has.
+-- Where the output failed after it was begun, it has a part of what these blocks make, from its front.
 abbrev pub StopsAt : Job → Refusal → (old new : DeskState) → Played → (upto : ℕ) → Type 0
 StopsAt (Playing run) refusal old new x upto =
     (refusal ≡ WriteFault Report → upto ≡ x.sizes.frames)
@@ -88,7 +89,7 @@ ComesFirst (Playing run) refusal old new = new.begins Output ≡ old.begins Outp
 ComesFirst (Checking name) refusal old new = Unit {0}
 ComesFirst (Making voices frames workers) refusal old new = refusal ≡ WriteFault Report → ⊥
 
--- and for these words
+-- a refusal that comes before any block of what the words ask for
 abbrev pub MayBeUntold : (words : List (List ℕ)) → Refusal → (old new : DeskState) → Type 0
 MayBeUntold words refusal old new = (job : Job) → Asks words job → ComesFirst job refusal old new
 

@@ -51,7 +51,7 @@ pub record HasNoProgram (Is : List ℕ → Result Compiled Refusal → Type 0) (
   pub file : file_named name files ≡ Some text
   pub refused : Is text (Err refusal)
 
--- that of a run: what is played of a text, or of a file of jobs
+-- the program of a run: that of a text, or of a file of jobs
 abbrev pub HasProgramOf : Run → List File → Type 0
 HasProgramOf run files = HasProgram (FileIs run.manner.program) run.program files
 
@@ -65,11 +65,11 @@ pub record Plays (run : Run) (files : List File) : Type 0 where
   pub format : OutputFormat
   pub fits : format_of (coding_of run.manner.output) run.settings of.compiled.diagram source.head ≡ Ok format
 
--- what it means that they are played
+-- what the files of a run mean that are played
 abbrev pub meant : {run : Run} {files : List File} → Plays run files → Meant
 meant p = run_meant p.of.compiled.diagram (control_streams p.changes (initial_of p.of.compiled.controls)) p.format (present_in p.format p.source)
 
--- and what it means that the frames before frame g are, which are present
+-- what the files of a run mean that are played, up to frame g: the frames before it, of those that are present
 abbrev pub meant_to : {run : Run} {files : List File} → Plays run files → (g : ℕ) → Meant
 meant_to p g = run_meant p.of.compiled.diagram (control_streams p.changes (initial_of p.of.compiled.controls)) p.format (take g (present_in p.format p.source))
 
@@ -79,17 +79,17 @@ IsWhole p = cut_in p.format p.source ≡ None
 
 -- ---- what is asked for
 
--- this is the program of so many voices
+-- this is the program of this many voices
 abbrev pub IsMade : (voices : ℕ) → Compiled → Type 0
 IsMade voices p = TextIs (text_of voices) (Ok p)
 
--- it can be done
+-- what a job asks for can be done with these files
 abbrev pub CanDo : Job → List File → Type 0
 CanDo (Playing run) files = (p : Plays run files) × IsWhole p
 CanDo (Checking name) files = HasProgram TextIs name files
 CanDo (Making voices frames workers) files = (p : Compiled) × IsMade voices p
 
--- what it means that it is
+-- what a job means that can be done
 abbrev pub meant_of : (job : Job) (files : List File) → CanDo job files → Meant
 meant_of (Playing run) files can = meant can.0
 meant_of (Checking name) files can = check_meant can.compiled
@@ -109,7 +109,7 @@ pub data Stage : Type 0 where
   Fit : Stage
   -- the input is read, played and written block by block
   Write : Stage
-  -- and it is reported
+  -- what was done is reported
   Tell : Stage
 
 -- what a stage asks the desk for
@@ -186,7 +186,7 @@ StagePasses (Playing run) files Write = (p : Plays run files) × IsWhole p
 StagePasses (Checking name) files ReadProgram = HasProgram TextIs name files
 StagePasses job files s = Unit {0}
 
--- what a stage judges is refused for this: a make refuses nothing, since the text of so many voices is a program
+-- what a stage judges is refused for this: a make refuses nothing, since the text of its voices is a program
 abbrev pub StageRefuses : Job → List File → Stage → Refusal → Type 0
 StageRefuses (Playing run) files ReadProgram refusal = HasNoProgram (FileIs run.manner.program) run.program files refusal
 StageRefuses (Playing run) files ReadScript refusal = (p : HasProgramOf run files) × HasScript run.controls files p.compiled.controls (Err refusal)
@@ -198,17 +198,17 @@ StageRefuses (Playing run) files Write refusal = (p : Plays run files) × (cut_i
 StageRefuses (Checking name) files ReadProgram refusal = HasNoProgram TextIs name files refusal
 StageRefuses job files s refusal = ⊥
 
--- it is known what they judge, which is nothing in a make
+-- it is known what the stages of a job judge: the desk tells its files, or the job is a make, whose stages judge none
 abbrev pub IsKnown : Job → DeskState → Type 0
 IsKnown (Making voices frames workers) old = Unit {0}
 IsKnown job old = IsTrue old.tells
 
--- the stages
+-- the stages of a job, in order
 abbrev pub stages_of : Job → List Stage
 stages_of (Playing run) = ReadProgram ∷ ReadScript ∷ ReadHead ∷ Fit ∷ Write ∷ Tell ∷ []
 stages_of job = ReadProgram ∷ Tell ∷ []
 
--- and their rules
+-- what the stages of a job are, on the files that the desk had at first
 abbrev pub rules_of : Job → DeskState → Rules Stage
 rules_of job old = record {
   requests = requests_of job;
@@ -241,7 +241,7 @@ abbrev pub BeginsOutput : Job → (old new : DeskState) → Type 0
 BeginsOutput (Playing run) old new = HasBegun old new
 BeginsOutput job old new = new.begins Output ≡ old.begins Output
 
--- of the input of a run nothing was read behind its whole frames
+-- of the input of a run nothing was read after its whole frames
 abbrev pub LeavesRestOf : Job → (old new : DeskState) → Type 0
 LeavesRestOf (Playing run) old new = LeavesRest run.manner.input run.input old.files (new.left Input)
 LeavesRestOf job old new = Unit {0}
@@ -268,7 +268,7 @@ pub record HasDone (words : List (List ℕ)) (frames : ℕ) (old new : DeskState
       × (IsTrue old.tells → (r : Role) → new.written r ≡ written_by (meant_of job old.files can) old r)
 
 -- A part of the output file from its front was written, and memory was not wanted. Of the input, unless it failed, nothing was read
--- behind its whole frames; and unless the output failed, they were all read.
+-- after its whole frames; and unless the output failed, they were all read.
 pub record HasPlayedPart (words : List (List ℕ)) (refusal : Refusal) (old new : DeskState) : Type 0 where
   pub run : Run
   pub asks : Asks words (Playing run)
@@ -301,8 +301,8 @@ CutsShort words refusal old new =
 abbrev pub IsRead : (words : List (List ℕ)) → Role → Type 0
 IsRead words r = (job : Job) × Asks words job × IsReadBy job r
 
--- What is not touched: bytes left of roles that are not read, bytes written of other roles than the output and the report, and
--- begins of other roles than the output.
+-- What is not touched: the bytes left of roles that are not read, the bytes written of roles other than the output and the report,
+-- and the begins of roles other than the output.
 pub record KeepsOthers (Reads : Role → Type 0) (old new : DeskState) : Type 0 where
   pub left : IsTrue old.tells → (r : Role) → (Reads r → ⊥) → new.left r ≡ old.left r
   pub written : IsTrue old.tells → (r : Role) → r ≢ Output → r ≢ Report → new.written r ≡ old.written r
@@ -343,8 +343,8 @@ IfRefused (Refused refusal) P = P refusal
 abbrev pub IsDoneOrNoMemory : Status → Type 0
 IsDoneOrNoMemory status = IfRefused status (λ refusal. refusal ≡ NoMemory)
 
--- Where the words ask for a run whose files can be played, or for a check of a program, and each turn is sure to be answered
--- or has no fault, it is done, unless memory runs out.
+-- What can be done is done: where the words ask for a job and all of its stages pass, it is done, unless memory runs out. It is known
+-- what the stages judge, and each turn is sure to be answered or has no fault.
 abbrev pub IsComplete : (words : List (List ℕ)) → (old new : DeskState) → Status → Type 0
 IsComplete words old new status =
     (job : Job) → Asks words job → IsKnown job old → PassesAll (rules_of job old) old new (stages_of job) → IsDoneOrNoMemory status

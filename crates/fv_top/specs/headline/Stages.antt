@@ -17,7 +17,7 @@ abbrev pub role_of : Turn → Role
 role_of (reads role) = role
 role_of (writes role) = role
 
--- how a fault of it is answered
+-- how a fault of a turn is answered
 abbrev pub fault_of : Turn → Refusal
 fault_of (reads role) = ReadFault role
 fault_of (writes role) = WriteFault role
@@ -40,7 +40,8 @@ pub record Rules (S : Type 0) : Type 1 where
   -- it is known what the stages judge: where they judge files, the desk tells them
   pub Known : Type 0
 
--- Why a stage ends all: a fault of a turn that was not sure to be answered, or it refuses what it judges, or memory runs out in a stage that takes some.
+-- Why a stage ends all: a fault of a turn that was not sure to be answered, a refusal of what it judges, or want of memory in a
+-- stage that takes some.
 pub data Halts {S : Type 0} (k : Rules S) (old new : DeskState) (s : S) : Refusal → Type 0 where
   fault : (t : Turn) → k.Takes s t → HasFault (role_of t) old new → (IsTrue old.tells → k.Answers s t → ⊥) → Halts k old new s (fault_of t)
   judged : {refusal : Refusal} → k.Has s refusal → (k.Known → k.Refuses s refusal) → Halts k old new s refusal
@@ -66,7 +67,7 @@ pub data Stops {S : Type 0} (k : Rules S) (old new : DeskState) : List S → Ref
   at : {s : S} {rest : List S} {refusal : Refusal} → IsQuiet k old new s → k.Refuses s refusal → Stops k old new (s ∷ rest) refusal
   behind : {s : S} {rest : List S} {refusal : Refusal} → IsQuiet k old new s → k.Passes s → Stops k old new rest refusal → Stops k old new (s ∷ rest) refusal
 
--- All of them pass.
+-- All of these stages pass.
 pub data PassesAll {S : Type 0} (k : Rules S) (old new : DeskState) : List S → Type 0 where
   none : PassesAll k old new []
   more : {s : S} {rest : List S} → IsQuiet k old new s → k.Passes s → PassesAll k old new rest → PassesAll k old new (s ∷ rest)

@@ -51,12 +51,12 @@ use Rattle.fv_top_files.specs.Loaded.{held_in}
 abbrev pub samples_of : Incoming → InputSamples
 samples_of h = record { coding = h.coding; channels = h.channels; bits = h.bits; size = h.data_bytes; place = h.place }
 
--- the head of an output of so many channels in this format
+-- the head of an output of N channels in this format
 abbrev pub output_head : (channels : ℕ) → Made → OutputHead
 output_head channels f = record { coding = f.coding; channels = channels; rate = f.rate; bits = f.bits; size = f.size }
 
--- The tape of an output of this name, so many channels and this format, and of an input that was loaded, of which nothing was heard
--- yet, with room for so many frames.
+-- The tape of an output of this name, with these channels and this format, and of an input that was loaded. Nothing was heard of it
+-- yet, and it has room for a block.
 pub record IsTapeOf (name : List ℕ) (channels : ℕ) (format : Made) (loaded : Loaded) (block : ℕ) (t : FileTape) : Type 0 where
   pub output : t.output.now ≡ name
   pub head : t.head ≡ output_head channels format
@@ -102,7 +102,8 @@ pub record IsForRun (run : Run) (p : Prepared) : Type 0 where
   pub output : p.tape.output.now ≡ run.output
   pub named : is_some p.tape.input ≡ is_some run.input
 
--- And it is what the files of the run say, where the desk tells them; the samples of its input are left to read, or were read.
+-- What is ready is what the files of the run say, where the desk tells them. The samples of its input are left to read, or were
+-- read.
 pub record IsOfFiles (run : Run) (old new : DeskState) (c : Compiled) (p : Prepared) : Type 0 where
   pub plays : Plays run old.files
   pub program : plays.of.compiled ≡ c
@@ -113,7 +114,7 @@ pub record IsOfFiles (run : Run) (old new : DeskState) (c : Compiled) (p : Prepa
 
 -- ---- how it is played
 
--- the whole frames that are there of its input, where so much is left of it
+-- the whole frames that are there of its input, where these bytes are left of it
 abbrev pub frames_there : Prepared → (left : List ℕ) → List Frame
 frames_there p left = frames_of (files_of p.tape) left
 
@@ -161,7 +162,7 @@ IsEndFor c p g old new stop.Write =
     × (IsTrue old.tells → (n : ℕ) × (n ≤ p.sizes.frames) × HasTaken (files_of p.tape) n old new)
     × (KeepsOutput old new ⊎ (IsTrue old.tells → IsPrefixOf (new.written Output) (file_to c p g (old.left Input))))
 
--- It stopped behind the blocks up to frame g: the output is as it was, and no block ran, or it was begun, and has a part of its file
+-- It stopped after the blocks up to frame g: the output is as it was, and no block ran, or it was begun, and has a part of its file
 -- from its front.
 pub record EndsAt (c : Compiled) (p : Prepared) (g : ℕ) (old new : DeskState) (e : Stop) : Type 0 where
   pub streams : Streams p.tape.output.now old new

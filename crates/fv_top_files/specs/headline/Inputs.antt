@@ -1,4 +1,4 @@
--- Inputs of either kind: what their heads say, and the samples behind them (RIFF WAVE 1991; Sun audio; this project's profile).
+-- Inputs of either kind: what their heads say, and the samples after them (RIFF WAVE 1991; Sun audio; this project's profile).
 use Rattle.std.specs.Prelude.{ℕ, Option, Some, None, false, is_none, List, if◌then◌else◌}
 use Rattle.fv_pcm.specs.declared.coding.Coding.{Coding}
 use Rattle.fv_pcm.specs.declared.coding.Coding.TheVariants as coding
@@ -14,20 +14,20 @@ abbrev pub wave_incoming : Head → Incoming
 wave_incoming h =
     record { coding = coding.Wave; channels = h.channels; rate = h.rate; bits = h.bits; data_bytes = h.data_bytes; is_open = false; place = h.place }
 
--- an input with the head of an AU file and so many bytes of samples, which the head may not state
+-- an input with the head of an AU file and this many bytes of samples, which the head may not state
 abbrev pub au_incoming : AuHead → (data_bytes : ℕ) → Incoming
 au_incoming h n =
     record { coding = coding.Au; channels = h.channels; rate = h.rate; bits = h.bits; data_bytes = n; is_open = is_none h.data_bytes; place = h.offset }
 
--- where its samples lie
+-- where an input's samples lie in its file
 abbrev pub layout_of : Incoming → Layout
 layout_of h = record { channels = h.channels; bits = h.bits; size = h.data_bytes; place = h.place }
 
--- its whole frames, and their bytes
+-- how many whole frames an input's head states
 abbrev pub stated_frames : Incoming → ℕ
 stated_frames h = frames_stated (layout_of h)
 
--- the bytes of its whole frames
+-- how many bytes the whole frames of an input have
 abbrev pub whole_bytes : Incoming → ℕ
 whole_bytes h = bytes_stated (layout_of h)
 

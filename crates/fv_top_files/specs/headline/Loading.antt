@@ -36,12 +36,12 @@ pub record HasInput (kind : InputKind) (name : Option (List ℕ)) (files : List 
   pub file : found files name ≡ Some bytes
   pub is : source_of kind bytes ≡ says
 
--- of a file with this head, what stands behind the samples that are read is left
+-- of a file with this head, what follows the samples that are read is left
 abbrev pub IsRest : Option Incoming → (bytes left : List ℕ) → Type 0
 IsRest None bytes left = Unit {0}
 IsRest (Some h) bytes left = left ≡ drop (h.place + read_bytes h) bytes
 
--- Nothing was read of the input behind its whole frames, or behind its samples where their size is not stated.
+-- Nothing was read of the input after its whole frames, or after its samples where their size is not stated.
 pub record LeavesRest (kind : InputKind) (name : Option (List ℕ)) (files : List File) (left : List ℕ) : Type 0 where
   pub source : Source
   pub input : HasInput kind name files (Ok source)
@@ -52,7 +52,7 @@ abbrev pub IsWithin : Option Incoming → (bytes left : List ℕ) → Type 0
 IsWithin None bytes left = Unit {0}
 IsWithin (Some h) bytes left = (k : ℕ) × (k ≤ read_bytes h) × (left ≡ drop (h.place + k) bytes)
 
--- Nothing was read of the input behind these.
+-- Of the input no more was read than the samples that are read.
 pub record ReadsWithin (kind : InputKind) (name : Option (List ℕ)) (files : List File) (left : List ℕ) : Type 0 where
   pub source : Source
   pub input : HasInput kind name files (Ok source)

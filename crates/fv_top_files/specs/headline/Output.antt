@@ -46,23 +46,23 @@ abbrev pub bits_in : Settings → Option Incoming → ℕ
 bits_in s None = unwrap_or s.bits 16
 bits_in s (Some h) = unwrap_or s.bits h.bits
 
--- a head can state so many bytes, or it cannot
+-- the format, where a head can state this many bytes of samples
 abbrev pub sized : OutputFormat → (size : ℕ) → Result OutputFormat Refusal
 sized format size = if nat_le size data_limit then Ok format else Err (OutputTooLong size)
 
--- a format of so many frames, each of so many channels
+-- the format of an output of this many frames, if they are known, with `outputs` channels
 abbrev pub counted : Coding → Settings → (outputs : ℕ) → Option Incoming → Option ℕ → Result OutputFormat Refusal
 counted out s outputs head None = Err FramesNeeded
 counted out s outputs head (Some n) =
     sized (record { coding = out; rate = rate_in s head; bits = bits_in s head; frames = n }) (data_size outputs (bits_in s head) n)
 
--- The format of what so many inputs and outputs make of an input, in this coding, or why it does not fit: first the channels, then the
--- frames, then the bytes.
+-- The format of what a program with this many inputs and outputs makes of an input, in this coding; or why it does not fit. First
+-- the channels are tried, then the frames, then the bytes.
 abbrev pub format_for : Coding → Settings → (inputs outputs : ℕ) → Option Incoming → Result OutputFormat Refusal
 format_for out s inputs outputs head =
     if channels_in head == inputs then counted out s outputs head (frames_in s head) else Err (Channels (channels_in head) inputs)
 
--- the format of what a diagram makes of it
+-- the format of what a diagram makes of an input
 abbrev pub format_of : Coding → Settings → Diagram → Option Incoming → Result OutputFormat Refusal
 format_of out s d head = format_for out s (inputs d) (outputs d) head
 
@@ -79,13 +79,13 @@ abbrev pub coding_of : OutputKind → Coding
 coding_of output.Wave = coding.Wave
 coding_of output.Au = coding.Au
 
--- the bytes behind so many bytes of samples: in a WAV file one zero byte behind an odd number
+-- the bytes after size bytes of samples: in a WAV file one zero byte after an odd number
 abbrev pub pad_in : Coding → (size : ℕ) → List ℕ
 pad_in coding.Wave size = pad_bytes size
 pad_in coding.Au size = []
 
 -- The output file of a diagram on the frames X, which are those that are there of the stated number: the head, the
--- answer's frames and, where all frames are there, what stands behind their bytes.
+-- answer's frames and, where all frames are there, what follows their bytes.
 abbrev pub output_file : Diagram → (c : ℕ → Stream) → OutputFormat → (X : List Frame) → List ℕ
 output_file d c format X =
     let size = data_size (outputs d) format.bits format.frames in

@@ -58,11 +58,11 @@ abbrev pub wave_source : List ℕ → Result Head WaveRefusal → Result Source 
 wave_source bytes (Ok h) = Ok (headed (wave_incoming h) bytes)
 wave_source bytes (Err e) = Err (of_wave e)
 
--- the samples up to the end of a file, if a head can state so many bytes
+-- the input that has its samples up to the end of a file, if a head can state their bytes
 abbrev pub open_source : List ℕ → AuHead → (size : ℕ) → Result Source Refusal
 open_source bytes h size = if nat_le size data_limit then Ok (headed (au_incoming h size) bytes) else Err (no.AuFormat 8)
 
--- the samples of a size that is stated, or those up to the file's end
+-- the input that has its samples of a size that is stated, or else up to the file's end
 abbrev pub sized_source : List ℕ → AuHead → Option ℕ → Result Source Refusal
 sized_source bytes h (Some size) = Ok (headed (au_incoming h size) bytes)
 sized_source bytes h None = open_source bytes h (length bytes - h.offset)
@@ -86,12 +86,12 @@ abbrev pub source_of : InputKind → Option (List ℕ) → Result Source Refusal
 source_of kind None = Ok (record { head = None; bytes = [] })
 source_of kind (Some bytes) = file_source kind bytes
 
--- what is there of the bytes of its whole frames
+-- what is there of the bytes of an input's whole frames
 abbrev pub data_of : Option Incoming → List ℕ → List ℕ
 data_of None bytes = []
 data_of (Some h) bytes = present h bytes
 
--- The whole frames in these bytes; without a head, so many frames of no samples.
+-- The whole frames in these bytes; without a head, the stated number of frames of no samples.
 abbrev pub frames_of : (stated : ℕ) → Option Incoming → (raw : List ℕ) → List Frame
 frames_of stated None raw = table stated (λ t. [])
 frames_of stated (Some h) raw =

@@ -19,7 +19,8 @@ pub record GivesHead (says : Result Source Refusal) (head : Option Incoming) (he
   pub is : source.head ≡ head
   pub behind : IsLeft head held source.bytes left
 
--- the head of a file that was begun could not be read, or it is refused, by a refusal of this kind, or memory ran out
+-- Why reading of a head stops: it could not be read, or memory ran out, or it is refused. Then the refusal is of this kind, and is
+-- what is said of the input.
 abbrev pub StopsHead : (Kind : Refusal → Type 0) → (says : Result Source Refusal) → (old new : DeskState) → Refusal → Type 0
 StopsHead Kind says old new refusal =
     ((refusal ≡ ReadFault Input) × IsFaultOfInput old new) ⊎ (Kind refusal × (IsTrue old.tells → says ≡ Err refusal)) ⊎ (refusal ≡ NoMemory)

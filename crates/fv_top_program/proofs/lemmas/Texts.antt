@@ -37,7 +37,7 @@ whole_cut : (text bytes : List ℕ) (r : Result Lexed Refusal) → bytes ≡ tak
 whole_cut text bytes r e (kept l h) = kept l (whole_has text bytes (Ok l) e h)
 whole_cut text bytes r e (turned f h) = turned f (whole_has text bytes (Err f) e h)
 
--- what holds of first answers holds of those behind them
+-- what holds of first answers holds of those after them
 pub then_front : {X A B E : Type 0} (P : X → Result A E → Type 0) (Q : A → Result B E → Type 0) (x y : X) → ((r : Result A E) → P x r → P y r) →
     (r : Result B E)
     → Then P Q x r → Then P Q y r
@@ -53,7 +53,7 @@ whole_is text bytes r e h =
     (then_front (Turned of_bytes Has) (Turned of_tokens Parses) bytes text (λ s. whole_cut text bytes s e))))
     r h
 
--- what is answered behind a first answer has one
+-- what is answered after a first answer has one
 then_first : {X A B E : Type 0} (P : X → Result A E → Type 0) (Q : A → Result B E → Type 0) (x : X) (b : B) (r : Result B E) → r ≡ Ok b → Then P Q x r
     → (a : A) × P x (Ok a)
 then_first P Q x b r is (stops f h) = absurd cc

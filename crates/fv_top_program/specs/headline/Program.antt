@@ -47,7 +47,7 @@ valued (Err e) = Err e
 abbrev pub evaluated : Spelled → Result Compiled EvalRefusal
 evaluated s = valued (program_value s.tokens s.tree)
 
--- a program with so many inputs and outputs, where it has some output, and no more channels than files have
+-- a program with this many inputs and outputs, where it has some output, and no more channels than files have
 abbrev pub with_channels : (inputs outputs : ℕ) → Compiled → Result Compiled Refusal
 with_channels inputs outputs p =
     if outputs == 0 then Err (no.Channels 0 1)
@@ -63,11 +63,11 @@ narrow p = with_channels (inputs p.diagram) (outputs p.diagram) p
 abbrev pub delays_in : Compiled → List Interval
 delays_in p = delays_of p.diagram (spans_of p.controls)
 
--- their sum
+-- the sum of a program's delays
 abbrev pub delay_in : Compiled → ℕ
 delay_in p = sum (amounts (delays_in p))
 
--- a span of delays that are refused, before those behind it
+-- a span of delays that are refused, before those after it
 abbrev pub bad_delay : Interval → Option Refusal → Option Refusal
 bad_delay s behind =
     if int_lt s.lo (pos 0) then Some (no.DelayNegative s.lo)
@@ -78,7 +78,7 @@ abbrev pub first_bad : List Interval → Option Refusal
 first_bad [] = None
 first_bad (s ∷ ss) = bad_delay s (first_bad ss)
 
--- and where none is, their sum may be
+-- a program whose delays have this first refusal: that refuses it, and where there is none, their sum may be over the limit
 abbrev pub delayed : Compiled → Option Refusal → Result Compiled Refusal
 delayed p (Some refusal) = Err refusal
 delayed p None = if nat_le (delay_in p) DELAY_BUDGET then Ok p else Err (no.DelayBudget (delay_in p))

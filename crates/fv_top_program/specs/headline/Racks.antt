@@ -28,12 +28,12 @@ rack_of ps = record { diagram = side_by_side 0 (map part_of ps); controls = cont
 abbrev pub refused_job : (k : ℕ) → Refusal → Refusal
 refused_job k e = no.Job k (row_of e).number
 
--- a program, and those behind it
+-- a program, and the programs after it
 abbrev pub with_first : Compiled → Result (List Compiled) Refusal → Result (List Compiled) Refusal
 with_first p (Ok ps) = Ok (p ∷ ps)
 with_first p (Err e) = Err e
 
--- what is said of those behind a first program, with that
+-- What is said of programs after a first one, said of all of them.
 pub record WithFirst (Behind : Result (List Compiled) Refusal → Type 0) (p : Compiled) (r : Result (List Compiled) Refusal) : Type 0 where
   pub behind : Result (List Compiled) Refusal
   pub is_behind : Behind behind

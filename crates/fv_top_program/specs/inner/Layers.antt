@@ -25,10 +25,10 @@ Delayed p r = delayed p (first_bad (delays_in p)) ≡ r
 abbrev pub SpellingIs : List ℕ → Result Spelled Refusal → Type 0
 SpellingIs text r = Then (Turned of_bytes Has) (Turned of_tokens Parses) text r
 
--- and then its value
+-- what a text is up to its value: tokens, their tree, and the tree's value
 abbrev pub ValueIs : List ℕ → Result Compiled Refusal → Type 0
 ValueIs text r = Then SpellingIs (Turned of_value Evaluates) text r
 
--- and then its channels
+-- what a text is up to its channels: tokens, their tree, the tree's value, and its channels
 abbrev pub WidthIs : List ℕ → Result Compiled Refusal → Type 0
 WidthIs text r = Then ValueIs Narrow text r

@@ -22,7 +22,7 @@ of_jobs (jobs.TextTooLong role) = no.TextTooLong role
 of_jobs (jobs.RackSize n) = no.RackSize n
 of_jobs jobs.NoMemory = no.NoMemory
 
--- refusals of the text's bytes, and of its tokens, as those of a run
+-- the refusals of a text's bytes, as those of a run
 abbrev pub of_bytes : LexRefusal → Refusal
 of_bytes (bytes.TextTooLong role) = no.TextTooLong role
 of_bytes (bytes.BadByte line column) = no.BadByte line column
@@ -32,7 +32,7 @@ of_bytes (bytes.LiteralTooLarge line column) = no.LiteralTooLarge line column
 of_bytes (bytes.Nesting line column) = no.Nesting line column
 of_bytes bytes.NoMemory = no.NoMemory
 
--- those of its tokens
+-- the refusals of a text's tokens, as those of a run
 abbrev pub of_tokens : ParseRefusal → Refusal
 of_tokens (tokens.Syntax line column) = no.Syntax line column
 of_tokens (tokens.Unsupported word) = no.Unsupported word
@@ -42,7 +42,7 @@ of_tokens (tokens.RuleWidths line column) = no.RuleWidths line column
 of_tokens tokens.NoProcess = no.NoProcess
 of_tokens tokens.NoMemory = no.NoMemory
 
--- and those of its value
+-- the refusals of a program's value, as those of a run
 abbrev pub of_value : EvalRefusal → Refusal
 of_value (values.SizeBudget size) = no.SizeBudget size
 of_value (values.Arity kind left right) = no.Arity kind left right
@@ -59,7 +59,7 @@ of_value (values.TableForm cause) = no.TableForm cause
 of_value (values.TableBudget sum) = no.TableBudget sum
 of_value values.NoMemory = no.NoMemory
 
--- the refusals of a script
+-- the refusals of a script, as those of a run
 abbrev pub of_script : ScriptRefusal → Refusal
 of_script (lines.TextTooLong role) = no.TextTooLong role
 of_script (lines.ControlLine line) = no.ControlLine line
@@ -68,7 +68,7 @@ of_script (lines.ControlRange line) = no.ControlRange line
 of_script (lines.ControlOrder line) = no.ControlOrder line
 of_script lines.NoMemory = no.NoMemory
 
--- the refusals of a WAV file's head
+-- the refusals of a WAV file's head, as those of a run
 abbrev pub of_wave : WaveRefusal → Refusal
 of_wave (head.ReadFault role) = no.ReadFault role
 of_wave (head.NotWave place) = no.NotWave place
@@ -76,7 +76,7 @@ of_wave (head.WaveTruncated place) = no.WaveTruncated place
 of_wave (head.WaveFormat place) = no.WaveFormat place
 of_wave (head.WaveChunks place) = no.WaveChunks place
 
--- the refusals of an AU file
+-- the refusals of an AU file, as those of a run
 abbrev pub of_au : AuRefusal → Refusal
 of_au (au.ReadFault role) = no.ReadFault role
 of_au (au.AuFormat place) = no.AuFormat place

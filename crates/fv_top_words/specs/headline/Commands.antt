@@ -7,7 +7,7 @@ use Rattle.fv_top_words.specs.headline.Texts.{Texts, texts_of}
 use Rattle.fv_top_words.specs.headline.Numbers.{◌>>=◌, number_in}
 use Rattle.fv_top_words.specs.headline.Runs.{Run, run_of, by_kinds, of_jobs, within_or}
 
--- what the words ask for: to play a program, to check one, or to make one of so many voices and play it
+-- what the words ask for: to play a program, to check one, or to make one of some voices and play it
 pub data Job : Type 0 where
   Playing : (run : Run) → Job
   Checking : (program : List ℕ) → Job
@@ -19,12 +19,12 @@ play_of how t = do
   run ← run_of t
   Ok (Playing (how run))
 
--- PROGRAM
+-- the check that the plain word PROGRAM asks for
 abbrev pub check_of : List (List ℕ) → Result Job Cause
 check_of (program ∷ []) = Ok (Checking program)
 check_of _ = Err Form
 
--- each number in its range
+-- a make with each number in its range
 abbrev pub made : (voices frames workers : ℕ) → Result Job Cause
 made voices frames workers = do
   v ← within_or 1 MOST_VOICES 1 (Some voices)
@@ -32,7 +32,7 @@ made voices frames workers = do
   w ← within_or 1 MOST_WORKERS 1 (Some workers)
   Ok (Making v f w)
 
--- VOICES FRAMES WORKERS
+-- the make that the plain words VOICES FRAMES WORKERS ask for
 abbrev pub make_of : List (List ℕ) → Result Job Cause
 make_of (voices ∷ frames ∷ workers ∷ []) = do
   v ← number_in voices

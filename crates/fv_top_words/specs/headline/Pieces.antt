@@ -1,4 +1,4 @@
--- The words behind the command word, cut into names and options (this project's profile).
+-- The words after the command word, cut into names and options (this project's profile).
 use Rattle.std.specs.Prelude.{ℕ, Bool, false, ◌==◌, nat_lt, List, []}
 use Rattle.std.specs.Prelude.{◌∷◌, map, length, Option, Some, None, option_map, bytes_eq, codes, if◌then◌else◌}
 use Rattle.std.specs.List.{position_or_len, before_first, after_first}
@@ -22,12 +22,12 @@ is_equals b = b == 61
 abbrev pub has_equals : List ℕ → Bool
 has_equals w = nat_lt (position_or_len is_equals w) (length w)
 
--- a piece in front of those behind it
+-- a piece in front of those after it
 abbrev pub in_front : Piece → Option (List Piece) → Option (List Piece)
 in_front p behind = option_map (λ ps. p ∷ ps) behind
 
--- The pieces of the words, of which the first may be the value of an option; or nothing where the last option has no value. Behind
--- `--` all are plain; an option with `=` has its value behind the first one, and any other in the next word.
+-- The pieces of the words, of which the first may be the value of an option; or nothing where the last option has no value. After
+-- `--` all are plain; an option with `=` has its value after the first one, and any other in the next word.
 abbrev pub cut : (option : Option (List ℕ)) → List (List ℕ) → Option (List Piece)
 cut None [] = Some []
 cut (Some name) [] = None

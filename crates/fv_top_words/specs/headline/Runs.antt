@@ -13,12 +13,12 @@ use Rattle.fv_top_words.specs.declared.manner.OutputKind.TheVariants as output
 use Rattle.fv_top_words.specs.headline.Texts.{Texts}
 use Rattle.fv_top_words.specs.headline.Numbers.{◌>>=◌, Numbers, numbers_of}
 
--- a number that is given is in its range
+-- a number of an option, if it is given, in its range
 abbrev pub within : (least most : ℕ) → Option ℕ → Result (Option ℕ) Cause
 within least most None = Ok None
 within least most (Some n) = if nat_le least n && nat_le n most then Ok (Some n) else Err Range
 
--- and one that is not given has its default
+-- a number in its range; one that is not given has its default
 abbrev pub within_or : (least most default : ℕ) → Option ℕ → Result ℕ Cause
 within_or least most default None = Ok default
 within_or least most default (Some n) = if nat_le least n && nat_le n most then Ok n else Err Range
@@ -40,7 +40,8 @@ default_vector block = if nat_lt block 32 then block else max 32 ((block + (MOST
 abbrev pub vectors_in : (block vector : ℕ) → ℕ
 vectors_in block vector = (block + vector - 1) / vector
 
--- how a run is done: frames of a block and of a vector, workers, and, where they are given, the output's bits, frames and rate
+-- How a run is done: how many frames a block and a vector have, how many workers there are, and, where they are given, the output's
+-- bits, frames and rate.
 pub record Settings : Type 0 where
   pub block : ℕ
   pub vector : ℕ
@@ -49,7 +50,7 @@ pub record Settings : Type 0 where
   pub frames : Option ℕ
   pub rate : Option ℕ
 
--- first each number in its range, then the number of vectors
+-- how a run is done, unless a block has too many vectors
 abbrev pub checked : Settings → Result Settings Cause
 checked s = if nat_lt MOST_VECTORS (vectors_in s.block s.vector) then Err Vectors else Ok s
 
@@ -64,7 +65,8 @@ settings_of n = do
   rate ← within 1 (2 ^ 32 - 1) n.rate
   checked (record { block = block; vector = vector; workers = workers; bits = bits; frames = frames; rate = rate })
 
--- a run: its files by their names, an input and a script only where they are given, how it is done, and of which kinds the files are
+-- A run: its files by their names, an input and a script only where they are given. Then how it is done, and of which kinds the
+-- files are.
 pub record Run : Type 0 where
   pub program : List ℕ
   pub input : Option (List ℕ)
@@ -81,11 +83,11 @@ wave_files = record { program = program.Alone; input = input.Wave; output = outp
 abbrev pub output_kind : List ℕ → OutputKind
 output_kind name = if ends_with nat_eq name (codes ".au") then output.Au else output.Wave
 
--- the same run where its files may be AU files: the input by its first bytes, and the output by its name
+-- a run where its files may be AU files: the input by its first bytes, and the output by its name
 abbrev pub by_kinds : Run → Run
 by_kinds run = record run { manner = record run.manner { input = input.Either; output = output_kind run.output } }
 
--- the same run where its program's file is a file of jobs
+-- a run where its program's file is a file of jobs
 abbrev pub of_jobs : Run → Run
 of_jobs run = record run { manner = record run.manner { program = program.Rack } }
 
@@ -101,23 +103,23 @@ input_of w = if is_none_word w then None else Some w
 abbrev pub is_together : (input : List ℕ) → Settings → Bool
 is_together input s = not (is_none_word input) && (is_some s.frames || is_some s.rate)
 
--- the word is that name
+-- a word is the name that may be given
 abbrev pub is_named : Option (List ℕ) → List ℕ → Bool
 is_named None w = false
 is_named (Some v) w = bytes_eq w v
 
--- the output's text is that of another file
+-- the output's name is that of another file of the run
 abbrev pub is_same : (program input output : List ℕ) → (controls : Option (List ℕ)) → Bool
 is_same program input output controls = bytes_eq output program || bytes_eq output input || is_named controls output
 
--- a run that is done so
+-- a run with these files that is done so, or the first cause to refuse it
 abbrev pub run_with : (program input output : List ℕ) → (controls : Option (List ℕ)) → Settings → Result Run Cause
 run_with program input output controls s =
     if is_together input s then Err Together
     else (if is_same program input output controls then Err Same
     else Ok (record { program = program; input = input_of input; output = output; controls = controls; settings = s; manner = wave_files }))
 
--- PROGRAM INPUT OUTPUT, and options
+-- the run that PROGRAM INPUT OUTPUT and options ask for
 abbrev pub run_named : List (List ℕ) → Texts → Result Run Cause
 run_named (program ∷ input ∷ output ∷ []) t = do
   numbers ← numbers_of t

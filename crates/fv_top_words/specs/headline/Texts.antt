@@ -19,16 +19,16 @@ pub record Texts : Type 0 where
 abbrev pub no_texts : Texts
 no_texts = record { plain = []; has_options = false; controls = None; block = None; vector = None; workers = None; bits = None; frames = None; rate = None }
 
--- no command has more than three plain words
+-- the texts with one plain word more: no command has more than three
 abbrev pub add : List ℕ → Texts → Option Texts
 add w t = if nat_lt (length t.plain) 3 then Some (record t { plain = t.plain ++ w ∷ [] }) else None
 
--- an option is given once
+-- the value of an option that was not given before
 abbrev pub once : Option (List ℕ) → (value : List ℕ) → Option (Option (List ℕ))
 once None value = Some (Some value)
 once (Some v) value = None
 
--- the options, one row each
+-- the texts with the value of this option: the options, one row each
 abbrev pub row : (name value : List ℕ) → Texts → Option Texts
 row name value t =
     if bytes_eq name (codes "--controls") then option_map (λ v. record t { controls = v }) (once t.controls value)
@@ -40,20 +40,20 @@ row name value t =
     else (if bytes_eq name (codes "--rate") then option_map (λ v. record t { rate = v }) (once t.rate value)
     else None))))))
 
--- with an option more
+-- the texts with an option more, which marks that one is given
 abbrev pub put : (name value : List ℕ) → Texts → Option Texts
 put name value t = row name value (record t { has_options = true })
 
--- with one piece more
+-- the texts with one piece more, if it is allowed
 abbrev pub take_piece : Piece → Texts → Option Texts
 take_piece (Plain w) t = add w t
 take_piece (Given name value) t = put name value t
 
--- with these pieces more, if each is allowed
+-- the texts with these pieces more, if each is allowed
 abbrev pub gathered : Texts → List Piece → Option Texts
 gathered t [] = Some t
 gathered t (p ∷ ps) = option_and_then (λ u. gathered u ps) (take_piece p t)
 
--- the texts of the words behind the command word, or nothing where they are of no form
+-- the texts of the words after the command word, or nothing where they are of no form
 abbrev pub texts_of : List (List ℕ) → Option Texts
 texts_of ws = option_and_then (gathered no_texts) (cut None ws)

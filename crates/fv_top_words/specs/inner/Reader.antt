@@ -28,14 +28,14 @@ pub data State : Type 0 where
   Value : (name : List ℕ) → State
   Names : State
 
--- what may stand behind a word of this kind
+-- what may follow a word of this kind
 abbrev pub after_kind : Kind → List ℕ → State
 after_kind Bare w = Any
 after_kind Ends w = Names
 after_kind Apart w = Value w
 after_kind (Joined name value) w = Any
 
--- what may stand behind this word
+-- what may follow this word
 abbrev pub state_after : State → List ℕ → State
 state_after Any w = after_kind (kind_of w) w
 state_after (Value name) w = Any
@@ -60,7 +60,7 @@ pieces_so_far Any = Some []
 pieces_so_far (Value name) = None
 pieces_so_far Names = Some []
 
--- the piece in front of those behind it, if there is one
+-- the piece in front of those after it, if there is one
 abbrev pub with_piece : Option Piece → List Piece → List Piece
 with_piece None ps = ps
 with_piece (Some p) ps = p ∷ ps
