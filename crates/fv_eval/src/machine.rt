@@ -21,26 +21,16 @@ use std::alloc::Global;
 /// The lists of an evaluation.
 #[derive(Drop)]
 pub struct Machine {
-    /// Where the lists take their memory.
-    pub alloc: Global,
-    /// The diagrams that were put, and the table sum.
-    pub drawing: Drawing,
-    /// The environments, and the arguments that rules have taken.
-    pub scopes: Scopes,
-    /// The controls that were met, in the order of their first evaluation.
-    pub controls: Controls,
-    /// The controls of the labels that were met.
-    pub labels: Labels,
-    /// What waits for a value, the innermost last.
-    pub continuations: Continuations,
-    /// What is remembered of long patterns: which diagrams they do not match, which they may, and what they bind there.
-    pub trials: Trials,
-    /// The ways outward that names have gone.
-    pub shortcuts: Shortcuts,
-    /// The visits that are left.
-    pub visits: u32,
-    /// The next slot.
-    pub slot: u64,
+    pub alloc: Global, // Where the lists take their memory.
+    pub drawing: Drawing, // The diagrams that were put, and the table sum.
+    pub scopes: Scopes, // The environments, and the arguments that rules have taken.
+    pub controls: Controls, // The controls that were met, in the order of their first evaluation.
+    pub labels: Labels, // The controls of the labels that were met.
+    pub continuations: Continuations, // What waits for a value, the innermost last.
+    pub trials: Trials, // What is remembered of long patterns: which diagrams they do not match, which they may, and what they bind there.
+    pub shortcuts: Shortcuts, // The ways outward that names have gone.
+    pub visits: u32, // The visits that are left.
+    pub slot: u64, // The next slot.
 }
 
 impl Machine {
@@ -143,8 +133,7 @@ impl Machine {
         requires { Runs text.now self.old first }
         ensures { (o : Outcome Meant) → Continues text.now.tokens text.now self.old (Ok first) o → Ends text.now self.new result o }
     {
-        // For the prover: no step changes what the machine stands for, so it ends with what it stood for at first.
-        steps_mean();
+        steps_mean(); // For the prover: no step changes what the machine stands for, so it ends with what it stood for at first.
         let mut focus = first;
         'stepping: for _ in 0..u64::MAX {
             match self.step(text, focus) {

@@ -21,8 +21,7 @@ pub fn canonical(tree: &Tree, n: u64) -> u64
     ensures text { text_of tree.now.tokens result ≡ text_of tree.now.tokens n }
     ensures first { first_named tree.now.tokens result ≡ result }
 {
-    // For the prover: the token with a token's canonical number has the same bytes.
-    same_names();
+    same_names(); // For the prover: the token with a token's canonical number has the same bytes.
     tree.name(n)
 }
 

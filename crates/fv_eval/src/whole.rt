@@ -31,8 +31,7 @@ use fv_rules::{EvalRefusal, TableCause, evaluates_to_runnables, steps_mean};
 use std::alloc::{AllocError, Global};
 use std::marker::Model;
 
-/// A program's diagram, with the arena that it is in, and its controls. It can run: all that it is composed of fits, each of
-/// its slots is bound, and it reads no control but these.
+/// A program's diagram with its arena, and its controls. It can run: its compositions fit, each slot is bound, and it reads these controls alone.
 #[derive(Drop)]
 pub struct Program {
     pub diagrams: Diagrams,
@@ -166,9 +165,8 @@ fn evaluated(
     ensures refusal { IfErr result (λ e. (e ≡ NoMemory) ⊎ (program_value tree.now.tokens (program_of tree.now) ≡ Err e)) }
     ensures numbers { IfOk result (λ p. HasNumbers (tree_of p.diagrams p.root)) }
 {
-    // For the prover: the machine ends with what the rules give for the program, and what they give can run.
     steps_mean();
-    evaluates_to_runnables();
+    evaluates_to_runnables(); // For the prover: the machine ends with what the rules give for the program, and what they give can run.
     let (mut machine, first) = started(alloc, tree, name)?;
     match machine.run(text, first) {
         Ok(value) => finished(machine, value),

@@ -26,8 +26,7 @@ const LEVELS: u64 = 64;
 const MANY: usize = 64;
 
 impl Subjects<'_> {
-    /// Tries a pattern on a value: whether it matches. The bindings are added to those so far. It adds integers alone,
-    /// also where memory runs out.
+    /// Tries a pattern on a value: whether it matches. The bindings are added to those so far. It adds integers alone, also where memory runs out.
     pub(crate) fn matches_one(
         &self,
         pattern: TreeId,
@@ -106,8 +105,7 @@ impl Subjects<'_> {
         Ok(true)
     }
 
-    // Tries a pattern on a diagram, part by part. What it binds is added to the bindings so far, and is remembered where the
-    // pattern is long.
+    // Tries a pattern on a diagram, part by part. What it binds is added to the bindings so far, and is remembered where the pattern is long.
     fn binds_plainly(
         &self,
         pair: Pair,

@@ -49,18 +49,12 @@ pub enum Look {
 /// has. Rows are made only once the pairs that were tried without them have cost as much as they do.
 #[derive(Drop)]
 pub(crate) struct Survey {
-    // The rows, each once: the set of the nodes of the text that may match.
-    rows: Vec<Bits>,
-    // A cache from shapes to rows.
-    steps: Vec<Option<ShapeRow>>,
-    // By diagram: the index of its row, where it has one.
-    of_diagrams: Vec<Option<u64>>,
-    // A cache from the bits of a row to its index.
-    by_bits: Vec<u64>,
-    /// How many pairs were tried.
-    tried: u64,
-    /// What the rows cost so far, in pairs.
-    spent: u64,
+    rows: Vec<Bits>, // The rows, each once: the set of the nodes of the text that may match.
+    steps: Vec<Option<ShapeRow>>, // A cache from shapes to rows.
+    of_diagrams: Vec<Option<u64>>, // By diagram: the index of its row, where it has one.
+    by_bits: Vec<u64>, // A cache from the bits of a row to its index.
+    tried: u64, // How many pairs were tried.
+    spent: u64, // What the rows cost so far, in pairs.
 }
 
 impl Model for Survey {

@@ -45,16 +45,11 @@ pub struct Trial {
 /// A memo of trials. Each pair of a pattern and a diagram has one slot; a later pair evicts what it has.
 #[derive(Drop)]
 pub struct Trials {
-    // The cache of trials, which is direct-mapped: each pair has one slot.
-    slots: Vec<Trial>,
-    // What the pairs bind that are known to match; a trial has a range of it.
-    bindings: Vec<Binding>,
-    // Which nodes of the text may match which diagrams.
-    survey: Survey,
-    /// How many were remembered.
-    kept: u64,
-    /// How many pairs were tried.
-    tried: u64,
+    slots: Vec<Trial>, // The cache of trials, which is direct-mapped: each pair has one slot.
+    bindings: Vec<Binding>, // What the pairs bind that are known to match; a trial has a range of it.
+    survey: Survey, // Which nodes of the text may match which diagrams.
+    kept: u64, // How many were remembered.
+    tried: u64, // How many pairs were tried.
 }
 
 impl Model for Trials {

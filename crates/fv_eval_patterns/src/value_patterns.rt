@@ -58,8 +58,7 @@ impl Bindings {
     }
 }
 
-/// The bindings of a pattern against a value; `None` where it does not match. It adds integers alone, also where
-/// memory runs out.
+/// The bindings of a pattern against a value; `None` where it does not match. It adds integers alone, also where memory runs out.
 pub fn matches(
     alloc: Global,
     tree: &Tree,
@@ -91,8 +90,7 @@ pub fn matches(
     }
 }
 
-/// Tries a pattern on a value: whether it matches. The bindings are added to those so far. It adds integers alone,
-/// also where memory runs out.
+/// Tries a pattern on a value: whether it matches. The bindings are added to those so far. It adds integers alone, also where memory runs out.
 pub(crate) fn matches_in(
     alloc: Global,
     tree: &Tree,
@@ -131,8 +129,7 @@ pub(crate) fn matches_in(
 fn bind(tree: &Tree, n: u64, value: Value, found: &mut Vec<Binding>) -> Result<(), AllocError>
     ensures { OnOk result (BindsName tree.now n value found.old.items found.new.items) }
 {
-    // For the prover: the token with a token's canonical number has the same bytes.
-    same_names();
+    same_names(); // For the prover: the token with a token's canonical number has the same bytes.
     let name = tree.name(n);
     found.push(Binding { name, value })?;
     Ok(())
