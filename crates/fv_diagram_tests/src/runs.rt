@@ -179,7 +179,7 @@ fn step_all(
     Ok(())
 }
 
-// Runs a diagram on frames, and compares what it answers.
+/// Runs a diagram on frames, and compares what it answers.
 pub fn play(
     rt: &impl Abort,
     alloc: Global,
@@ -297,7 +297,7 @@ fn long_chains_run(rt: HostRuntime) -> Result<(), Fail> {
     chain(&rt, rt.alloc(), false, &[0, 0, 0, 5, 0, 7])
 }
 
-// So many frames of two zeros, but for these values at these frames.
+// `count` frames of two zeros, but for these values at these frames.
 fn sparse(alloc: Global, count: u32, values: &[(u32, i32)]) -> Result<Vec<i32>, AllocError> {
     let mut all = Vec::new(alloc);
     for i in 0..count {

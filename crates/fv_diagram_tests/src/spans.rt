@@ -100,7 +100,7 @@ fn assert_delays(rt: &impl Abort, delays: &Delays, want: &[u32], name: &str) {
     assert!(rt; delays.sum() == sum, "{name}");
 }
 
-// Compares delays or their refusal with what is wanted.
+/// Compares delays or their refusal with what is wanted.
 pub fn assert_found(
     rt: &impl Abort,
     found: &Result<Delays, DelayRefusal>,

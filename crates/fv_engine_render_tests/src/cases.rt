@@ -46,6 +46,7 @@ fn script_of(alloc: Global, text: &str, controls: &[ControlInfo]) -> Result<Scri
     ensures lawful { IfOk result (AllByRecursion (IsOfControls controls.now)) }
     ensures named { IfOk result (AllByRecursion (λ c. c.control < length controls.now)) }
 {
+    // For the prover: what a script spells is in order, and of its controls.
     scripts_are_lawful();
     let Ok(script) = Script::read(alloc, text.as_bytes(), controls) else {
         return Err("no script".into());
@@ -61,7 +62,7 @@ fn numbers_in(alloc: Global, program: &Program) -> Result<(Vec<i32>, Vec<Span>),
     Ok((initial, spans))
 }
 
-/// The same of a program's text.
+/// The numbers with which the controls of a program's text begin, and those that they may have.
 pub(crate) fn numbers_of(alloc: Global, text: &str) -> Result<(Vec<i32>, Vec<Span>), Fail> {
     let program = program_of(alloc, text)?;
     numbers_in(alloc, &program)
@@ -127,7 +128,7 @@ fn ready_of(alloc: Global, program: &Program, sizes: &RunSizes) -> Result<Ready,
     Ok(ready)
 }
 
-// A run over a tape in memory, for which all memory was taken. Nothing ends it early, so what is ready is let go of once.
+// A run over a tape in memory, for which all memory was taken. Nothing ends it early, so what is ready is dropped at one place.
 fn played_on<R: Threads + Wait + Sync, G: Gate + Sync>(
     rt: &R,
     alloc: Global,
@@ -203,7 +204,7 @@ fn answer_of<R: Threads + Wait + Sync, G: Gate + Sync>(
     })
 }
 
-/// What a run in blocks by so many workers gives.
+/// What a run in blocks by `workers` workers gives.
 pub(crate) fn rendered_by<R: Threads + Wait + Sync, G: Gate + Sync>(
     rt: &R,
     alloc: Global,

@@ -3,7 +3,7 @@
 use fv_outside::Tape;
 use std::convert::Infallible;
 
-/// The samples that are to be heard, and room for those that are said. Behind what is to be heard there are zeros, and what has no
+/// The samples that are to be heard, and room for those that are said. After what is to be heard there are zeros, and what has no
 /// room is lost.
 #[derive(Drop)]
 pub(crate) struct Memory<'a> {

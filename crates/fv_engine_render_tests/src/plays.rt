@@ -17,7 +17,7 @@ pub(crate) fn assert_answer(rt: &impl Abort, answer: &Answer, samples: &[i32], r
     assert_eq!(rt; answer.ran, ran);
 }
 
-/// What a run gives: these samples, and so many loops ran where that is said.
+/// What a run gives: these samples, and how many loops ran, where that is said.
 #[derive(Clone, Copy)]
 pub(crate) struct Wanted<'a> {
     pub(crate) samples: &'a [i32],

@@ -171,7 +171,7 @@ fn tables_over_blocks(rt: HostRuntime) -> Result<(), Fail> {
     Ok(())
 }
 
-// So many blocks were told, each with one vector of one loop.
+// `blocks` blocks were told, each with one vector of one loop.
 fn assert_blocks(rt: &impl Abort, recorder: &Recorder, blocks: u32) {
     assert_eq!(rt; recorder.calls(), Some(blocks));
     for i in 0..blocks {

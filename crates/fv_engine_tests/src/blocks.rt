@@ -48,7 +48,7 @@ fn play_difference<R: Abort + Threads + Wait + Sync, G: Gate + Sync>(
     Ok((reported.tasks, output))
 }
 
-// Of a block it was told so many loops, one vector, who reads whom, and these lines.
+// Of a block it was told this many loops, one vector, who reads whom, and these lines.
 fn assert_told(
     rt: &impl Abort,
     recorder: &Recorder,
@@ -290,7 +290,7 @@ fn two_loops_by_several_workers(rt: HostRuntime) -> Result<(), Fail> {
     Ok(())
 }
 
-// Where a line is of the second loop, it starts behind the finish of the first one's on its vector.
+// Where a line is of the second loop, it starts after the finish of the first one's on its vector.
 fn follows_its_source(line: &Line, lines: &[Line]) -> bool {
     for source in lines {
         let is_read = line.task.loop_no == 1
@@ -318,7 +318,7 @@ fn is_in_order(recorder: &Recorder) -> bool {
     true
 }
 
-// Twelve squares by so many workers: what is reported, the samples, and whether the lines of the one block are in order.
+// Twelve squares by `workers` workers: what is reported, the samples, and whether the lines of the one block are in order.
 fn play_squares<R: Abort + Threads + Wait + Sync>(
     rt: &R,
     alloc: Global,

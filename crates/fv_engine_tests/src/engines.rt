@@ -65,7 +65,7 @@ fn plan_of(alloc: Global, graph: &Graph) -> Result<Plan, AllocError>
     split(alloc, graph, &rates, &histories)
 }
 
-/// An engine of a graph with as many inputs and outputs and so many controls. Fails where it may not be prepared.
+/// An engine of a graph with as many inputs as outputs and with `controls` controls. Fails where it may not be prepared.
 pub(crate) fn engine_of(
     rt: &impl Abort,
     alloc: Global,

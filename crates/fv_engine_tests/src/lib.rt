@@ -1,5 +1,5 @@
 //! Tests of engines over graphs that are split: samples by hand, block by block, and what a gate sees and is told.
-// Each owner of an engine ends with `drop` of it: all of them then share the functions that let go of its parts.
+// Each owner of an engine ends with `drop` of it: all of them then share the functions that drop its parts.
 #![tactic(auto)]
 
 #[cfg(test)]

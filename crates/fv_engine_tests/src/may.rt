@@ -11,7 +11,7 @@ use fv_base::limits::DELAY_BUDGET;
 use fv_signal::{Graph, Signal, SignalId};
 use fv_split_plan::Plan;
 
-// A signal is an input or a control beyond so many.
+// Whether a signal is an input or a control beyond the first ones of these numbers.
 fn is_beyond(signal: Signal, channels: u32, controls: usize) -> bool
     ensures { result ≡ false → IsNamedWithin channels controls signal }
 {
@@ -28,7 +28,7 @@ fn is_beyond(signal: Signal, channels: u32, controls: usize) -> bool
     }
 }
 
-// The graph names an input or a control beyond so many.
+// Whether the graph names an input or a control beyond the first ones of these numbers.
 fn names_beyond(graph: &Graph, channels: u32, controls: usize) -> bool
     ensures inputs { result ≡ false → (i : ℕ) → NamesChannel graph.now i → i < channels }
     ensures controls { result ≡ false → (k : ℕ) → NamesControl graph.now k → k < controls }
@@ -56,7 +56,7 @@ fn histories_beyond(plan: &Plan) -> bool
     false
 }
 
-/// An engine for frames of so many numbers in and out and for so many controls may be prepared of a graph's plan.
+/// Whether an engine may be prepared of a graph's plan, for frames of `width` numbers in and out and for `controls` controls.
 pub(crate) fn may_be_prepared(graph: &Graph, plan: &Plan, width: u32, controls: usize) -> bool
     ensures loops { IsTrue result → 0 < plan.now.loops }
     ensures outputs { IsTrue result → length plan.now.outputs ≡ width }

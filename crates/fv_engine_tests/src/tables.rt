@@ -13,7 +13,7 @@ use std::test::Fail;
 use std::thread::Threads;
 use test_graphs::{Line, graph_over};
 
-/// Places within a list of few numbers, and places before and behind it.
+/// Places within a list of few numbers, and places before and after it.
 const INPUT: [i32; 20] = [
     0, 1, 2, 3, -1, 5, 100, -100, 2, 1, 0, 7, -3, 4, 1, 1, 2, 0, 9, -2,
 ];
@@ -28,13 +28,19 @@ const SIZES: [(u32, u32, u32); 6] = [
     (512, 32, 2),
 ];
 
-/// A graph of lines over tables, and what it gives for the input.
+/// A graph as a table, and what it gives for the input.
 struct Row {
+    // What the row is called where it fails.
     name: &'static str,
+    // The signals, in order.
     lines: &'static [Line],
+    // By group: the definitions of its members.
     groups: &'static [&'static [u64]],
+    // The tables, by their numbers.
     tables: &'static [&'static [i32]],
+    // The signals that are outputs.
     outputs: &'static [u64],
+    // The samples that it gives, one a frame.
     wanted: &'static [i32],
 }
 

@@ -47,7 +47,7 @@ fn add_diagram(line: &mut String, diagrams: &Diagrams, id: DiagramId) -> Result<
     line.push_str(")")
 }
 
-// A word, and a name or a label behind it.
+// A word, and a name or a label after it.
 fn named(alloc: Global, word: &str, name: &[u8]) -> Result<String, AllocError> {
     let mut line = format!(in alloc; "{word} ")?;
     add_bytes(&mut line, name)?;

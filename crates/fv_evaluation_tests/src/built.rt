@@ -58,7 +58,7 @@ fn put_item(
     }
 }
 
-// The diagram of items.
+/// The diagram of items.
 pub fn built(
     alloc: Global,
     diagrams: &mut Diagrams,

@@ -13,7 +13,7 @@ use fv_rules::put;
 use std::alloc::{AllocError, Global};
 use std::test::Fail;
 
-// What a name stands for, behind its number; nothing where it stands for nothing.
+// What a name stands for, after its number; nothing where it stands for nothing.
 fn add_meaning(line: &mut String, n: u64, meaning: &Meaning) -> Result<(), AllocError> {
     match meaning {
         Meaning::Unknown => Ok(()),
@@ -21,7 +21,7 @@ fn add_meaning(line: &mut String, n: u64, meaning: &Meaning) -> Result<(), Alloc
     }
 }
 
-// What the bytes of each of the first so many tokens stand for in an environment, by the token's number; those that stand for
+// What the bytes of each of the first `count` tokens stand for in an environment, by the token's number. Those that stand for
 // nothing are left out.
 fn meanings(
     alloc: Global,
@@ -40,7 +40,7 @@ fn meanings(
     Ok(line)
 }
 
-// The same among the outermost definitions.
+// What the bytes of each of the first `count` tokens stand for among the outermost definitions.
 fn outermost_meanings(alloc: Global, tree: &Tree, count: u64) -> Result<String, AllocError> {
     let definitions = Definitions::new(alloc, tree)?;
     let mut scopes = Scopes::new(alloc);
@@ -48,7 +48,7 @@ fn outermost_meanings(alloc: Global, tree: &Tree, count: u64) -> Result<String, 
     meanings(alloc, &definitions, &scopes, tree, count, env)
 }
 
-// The same of all tokens of a text.
+// What the bytes of all tokens of a text stand for among the outermost definitions.
 fn meanings_in(alloc: Global, text: &str) -> Result<String, AllocError> {
     let Ok(found) = tokens(alloc, text.as_bytes()) else {
         return String::from_str(alloc, "no tokens");
@@ -189,7 +189,8 @@ fn bounds_in(
     Ok(bounds)
 }
 
-// The same behind a hundred scopes, which bind the names from 200 on to 299, and of the name that the text defines first.
+// What some names are bound to after a hundred scopes, which bind the names from 200 on to 299, and the name that the text defines
+// first.
 fn bound_names(alloc: Global, tree: &Tree) -> Result<Vec<u64>, AllocError> {
     let definitions = Definitions::new(alloc, tree)?;
     let mut scopes = Scopes::new(alloc);

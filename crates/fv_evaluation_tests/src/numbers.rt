@@ -79,13 +79,13 @@ static CLOSED: [Row; 15] = [
         text: "process = seq(i,3,*(i + 2))(1);",
         number: 24,
     },
-    // names of nearer and of farther lists, behind lists that have none of them; one is bound in between
+    // names of nearer and of farther lists, after lists that have none of them; one is bound in between
     Row {
         text: "process = f(1) with{f(a)=a+b+c+d with{e=1;}with{e=2;}with{e=3;}with{e=4;}with{e=5;};} \
               with{b=10;}with{a=1000;b=20;c=100;}with{e=6;}with{a=2000;c=200;d=1000;};",
         number: 1111,
     },
-    // a name that many lists define, behind as many that do not, again and again
+    // a name that many lists define, after as many that do not, again and again
     Row {
         text: "process = f(3) with{f(0)=0;f(n)=q+f(n-1);} \
               with{a=1;}with{a=1;}with{a=1;}with{a=1;}with{a=1;}with{a=1;}with{a=1;}with{a=1;}with{a=1;}with{a=1;} \

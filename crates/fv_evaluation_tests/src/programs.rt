@@ -194,7 +194,7 @@ static APPLIED_DIAGRAMS: [Row; 10] = [
         text: "process = select3(_,10,20,30);",
         answer: "1 to 1: ((Wire,(10,(20,30))):Point(Select3))",
     },
-    // The same number of wires again, and fewer.
+    // Two wires are wanted again, and then one.
     Row {
         text: "process = (_,_,_)(1), (!,!)(2), (_,_,_)(3);",
         answer: "5 to 6: (((1,(Wire,Wire)):(Wire,(Wire,Wire))),(((2,Wire):(Cut,Cut)),((3,(Wire,Wire)):(Wire,(Wire,Wire)))))",
@@ -328,7 +328,7 @@ static CONTROLS: [Row; 4] = [
         text: "process = hslider(\"v\",5,0,10,1), hslider(\"v\",5,0,10,2);",
         answer: "0 to 2: (control 0,control 0); HSlider 5 0 10 v",
     },
-    // So it is where one place of the text is evaluated again, behind another control.
+    // So it is where one place of the text is evaluated again, after another control.
     Row {
         text: "f(x) = button(\"b\"), hslider(\"v\",x,0,10,1); process = f(5), f(5);",
         answer: "0 to 4: ((control 0,control 1),(control 0,control 1)); Button 0 0 1 b; HSlider 5 0 10 v",

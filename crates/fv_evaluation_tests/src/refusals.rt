@@ -72,7 +72,7 @@ static REFUSALS: [Row; 23] = [
         text: "process = button(\"g\"), checkbox(\"g\");",
         answer: "ControlClash g",
     },
-    // The same where one place of the text is evaluated again.
+    // One place of the text is evaluated again, with another control.
     Row {
         text: "f(x) = hslider(\"g\",x,0,10,1); process = f(1), f(2);",
         answer: "ControlClash g",

@@ -243,7 +243,7 @@ fn literals_wrap(rt: HostRuntime) {
     }
 }
 
-// The refusal of a sum behind a sum.
+// The refusal of a sum after a sum.
 fn refused(diagrams: &mut Diagrams) -> Result<DiagramId, EvalRefusal> {
     let id = put(diagrams, &Node::Prim(Prim::Point(Op::Add)))?;
     let twice = Node::Seq {

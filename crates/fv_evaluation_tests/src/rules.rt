@@ -108,7 +108,7 @@ fn the_first_rule_that_matches(rt: HostRuntime) -> Result<(), Fail> {
     Ok(())
 }
 
-// Three arguments, one behind the other.
+// Three arguments, one after the other.
 fn three(alloc: Global, scopes: &mut Scopes) -> Result<Vec<Value>, AllocError> {
     let mut last = 0;
     for n in 1..4 {

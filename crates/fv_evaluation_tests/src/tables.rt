@@ -140,7 +140,7 @@ static NO_TABLES: [Row; 19] = [
         text: "process = rdtable(16777216,1,_);",
         answer: "TableBudget { sum: 50331648 }",
     },
-    // No list of so many numbers is computed: they would take 8 GB.
+    // No list of 2147483647 numbers is computed: they would take 8 GB.
     Row {
         text: "process = rdtable(2147483647,1,_);",
         answer: "TableBudget { sum: 6442450941 }",
@@ -156,7 +156,7 @@ fn no_tables(rt: HostRuntime) -> Result<(), Fail> {
     assert_answers(&rt, rt.alloc(), &NO_TABLES)
 }
 
-// The text of a waveform of -1 and so many numbers more, each of which is 2.
+// The text of a waveform of -1 and `others` numbers more, each of which is 2.
 fn waveform(alloc: Global, others: usize) -> Result<String, AllocError> {
     let mut text = String::from_str(alloc, "process = waveform{-1")?;
     for _ in 0..others {

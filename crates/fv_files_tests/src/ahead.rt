@@ -17,7 +17,7 @@ fn input_of(alloc: Global, bytes: &[u8]) -> Result<MemoryDesk, Fail> {
 // What two looks at the input of a desk answer, how many bytes are then filled, and they.
 type Left = (Looked, Looked, Result<usize, Failed>, [u8; 6]);
 
-// What is left on a desk behind two looks.
+// What is left on a desk after two looks.
 fn left_behind_looks(desk: &mut MemoryDesk) -> Left {
     let mut ahead = Ahead::new(desk);
     let mut all = [0; 6];
@@ -48,7 +48,7 @@ fn bytes_stay_left_behind_a_look(rt: HostRuntime) -> Result<(), Fail> {
     Ok(())
 }
 
-/// The bytes of a desk's input behind a look, read so many at a time, and how many they are.
+/// The bytes of a desk's input after a look, read `size` at a time, and how many they are.
 fn read_all(desk: &mut MemoryDesk, size: usize) -> (usize, [u8; 16])
     requires size { 1 ≤ size }
     requires few { size ≤ 8 }
@@ -68,7 +68,8 @@ fn read_all(desk: &mut MemoryDesk, size: usize) -> (usize, [u8; 16])
     (count, bytes)
 }
 
-/// The same of the file of ten digits, whose bytes come in pieces of a size.
+/// The bytes of the file of ten digits after a look, read `size` at a time, where they come in pieces of `piece`; and how many they
+/// are.
 fn read_by(alloc: Global, size: usize, piece: u32) -> Result<(usize, [u8; 16]), Fail>
     requires size { 1 ≤ size }
     requires few { size ≤ 8 }
@@ -100,7 +101,7 @@ fn faulty(alloc: Global, call: u32) -> Result<(Looked, Taken, Taken), Fail> {
     Ok(look_and_take(&mut desk))
 }
 
-/// The same on a desk.
+/// What a look, a reading of one byte and one of four answer on a desk.
 fn look_and_take(desk: &mut MemoryDesk) -> (Looked, Taken, Taken) {
     let mut ahead = Ahead::new(desk);
     let _ = ahead.begin_read(Role::Input, "file");
@@ -116,7 +117,7 @@ type Looked = Result<Option<[u8; 4]>, Failed>;
 /// What a reading answers: the first byte.
 type Taken = Result<u8, Failed>;
 
-/// The first of the next bytes, of which so many are taken.
+/// The first of the next `count` bytes, all of which are taken.
 fn take_next<D: Desk>(desk: &mut D, count: usize) -> Taken
     requires some { 1 ≤ count }
     requires few { count ≤ 4 }

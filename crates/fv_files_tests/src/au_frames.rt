@@ -42,7 +42,7 @@ fn a_file_is_written(rt: HostRuntime) -> Result<(), Fail> {
     Ok(())
 }
 
-// The first two samples behind the head can be read from a desk, on which the third one is cut.
+// The first two samples after the head can be read from a desk, on which the third one is cut.
 fn assert_two_are_read(rt: &impl Abort, desk: &mut MemoryDesk) {
     assert!(rt; desk.begin_read(Role::Input, "samples").is_ok());
     let mut bytes = [0; 4];
@@ -95,12 +95,12 @@ fn write_faults(rt: HostRuntime) -> Result<(), Fail> {
     Ok(())
 }
 
-/// Three samples of an unknown size behind the first four bytes of their file.
+/// Three samples of an unknown size after the first four bytes of their file.
 const OPEN: [u8; 26] = [
     0, 0, 0, 24, 255, 255, 255, 255, 0, 0, 0, 3, 0, 0, 172, 68, 0, 0, 0, 1, 0, 1, 255, 254, 0, 3,
 ];
 
-/// The samples up to the end of the file of these bytes behind its first four, where they come in pieces of a size and the call of
+/// The samples up to the end of the file that has these bytes after its first four. They come in pieces of `piece`, and the call of
 /// this number fails.
 fn rest_of(
     alloc: Global,
@@ -125,7 +125,7 @@ fn rest_of(
     }
 }
 
-// The samples behind a head, which does not say how many they are.
+// The samples after a head, which does not say how many they are.
 fn rest_behind(alloc: Global, desk: &mut MemoryDesk, head: &AuHead) -> Result<Vec<i32>, AuRefusal>
     requires some { 1 ≤ head.now.channels }
     requires few { head.now.channels ≤ MOST_CHANNELS }

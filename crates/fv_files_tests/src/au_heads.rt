@@ -8,7 +8,7 @@ use std::alloc::Global;
 use std::process::Abort;
 use std::test::Fail;
 
-/// Three samples of 16 bits, 1, -2 and 3, behind the first four bytes of their file.
+/// Three samples of 16 bits, 1, -2 and 3, after the first four bytes of their file.
 pub const THREE: [u8; 26] = [
     0, 0, 0, 24, 0, 0, 0, 6, 0, 0, 0, 3, 0, 0, 172, 68, 0, 0, 0, 1, 0, 1, 255, 254, 0, 3,
 ];
@@ -22,7 +22,7 @@ pub const HEAD: AuHead = AuHead {
     offset: 24,
 };
 
-/// The head of the file of these bytes behind its first four.
+/// The head of the file of these bytes after its first four.
 fn head_of(alloc: Global, behind: &[u8]) -> Result<Result<AuHead, AuRefusal>, Fail> {
     let mut bytes = Vec::from_slice(alloc, b".snd")?;
     bytes.extend_from_slice(behind)?;

@@ -6,7 +6,7 @@ pub const PLAIN: [u8; 50] = [
     172, 0, 0, 136, 88, 1, 0, 2, 0, 16, 0, 100, 97, 116, 97, 6, 0, 0, 0, 1, 0, 254, 255, 3, 0,
 ];
 
-/// Two samples of 24 bits, 1 and -2, in the extensible format, behind a chunk of an odd size.
+/// Two samples of 24 bits, 1 and -2, in the extensible format, after a chunk of an odd size.
 pub const EXTENSIBLE: [u8; 86] = [
     82, 73, 70, 70, 78, 0, 0, 0, 87, 65, 86, 69, 102, 109, 116, 32, 40, 0, 0, 0, 254, 255, 1, 0,
     68, 172, 0, 0, 204, 4, 2, 0, 3, 0, 24, 0, 22, 0, 24, 0, 4, 0, 0, 0, 1, 0, 0, 0, 0, 0, 16, 0,

@@ -27,7 +27,7 @@ static TEXTS: [(&[u8], &[&[u8]]); 15] = [
     (b"a\n%%\nb\n", &[b"a\n", b"b\n"]),
     (b"a\n%%\nb", &[b"a\n", b"b"]),
     (b"a\r\n%%\r\nb\r\n", &[b"a\r\n", b"b\r\n"]),
-    // A last line that separates has an empty job behind it.
+    // A last line that separates has an empty job after it.
     (b"a\n%%", &[b"a\n", b""]),
     (b"a\n%%\n", &[b"a\n", b""]),
     (b"a\n%%\r", &[b"a\n", b""]),
@@ -53,7 +53,7 @@ fn texts(rt: HostRuntime) -> Result<(), Fail> {
     Ok(())
 }
 
-/// So many lines that separate, and then bytes of this value up to so many in all.
+/// `separators` lines that separate, and then bytes of this value up to `length` bytes in all.
 fn lines(alloc: Global, separators: usize, byte: u8, length: usize) -> Result<Vec<u8>, Fail> {
     let mut file = Vec::new(alloc);
     for _ in 0..separators {

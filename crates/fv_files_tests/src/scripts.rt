@@ -132,7 +132,7 @@ fn refusals(rt: HostRuntime) -> Result<(), Fail> {
     expect_refusals(&rt, rt.alloc(), &REFUSALS)
 }
 
-/// So many bytes of this value.
+/// `count` bytes of this value.
 fn repeated(alloc: Global, byte: u8, count: usize) -> Result<Vec<u8>, Fail> {
     let mut bytes = Vec::new(alloc);
     bytes.resize(count, byte)?;

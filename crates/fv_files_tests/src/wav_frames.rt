@@ -118,7 +118,7 @@ fn lengths(rt: HostRuntime) {
     }
 }
 
-// A frame of the extensible file behind a place is read, or refused so.
+// A frame of the extensible file after a place is read, or refused so.
 fn read_one(rt: &impl Abort, desk: &mut MemoryDesk, place: u64, wanted: Result<i32, WaveRefusal>)
     requires low { 80 ≤ place }
     requires high { place ≤ 83 }

@@ -123,7 +123,7 @@ fn plain_files_that_break_a_rule(rt: HostRuntime) -> Result<(), Fail> {
     expect_refusals(&rt, rt.alloc(), &PLAIN, &PLAIN_REFUSALS)
 }
 
-// The same of the extensible file.
+// What refuses the extensible file, after one change and cut at a length.
 static EXTENSIBLE_REFUSALS: [(Change, usize, WaveRefusal); 4] = [
     ((16, 39), 86, WaveRefusal::WaveFormat { place: 16 }),
     ((44, 2), 86, WaveRefusal::WaveFormat { place: 44 }),
@@ -143,7 +143,7 @@ fn joined(alloc: Global, front: &[u8], back: &[u8]) -> Result<Vec<u8>, AllocErro
     Ok(bytes)
 }
 
-// How many bytes of the plain file stand in front, those behind them, and what refuses both.
+// How many bytes of the plain file stand in front, those after them, and what refuses both.
 static MISPLACED: [(usize, &[u8], WaveRefusal); 4] = [
     (
         12,
@@ -173,7 +173,7 @@ fn chunks_where_none_may_stand(rt: HostRuntime) -> Result<(), Fail> {
     Ok(())
 }
 
-/// The plain file with so many empty chunks before its samples.
+/// The plain file with `count` empty chunks before its samples.
 fn with_chunks(alloc: Global, count: usize) -> Result<Vec<u8>, AllocError> {
     let mut bytes = Vec::new(alloc);
     bytes.extend_from_slice(&PLAIN[..36])?;

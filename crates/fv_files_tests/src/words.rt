@@ -55,7 +55,7 @@ fn refused(rt: HostRuntime) -> Result<(), Fail> {
     Ok(())
 }
 
-/// A run of these files, in blocks and vectors of so many frames, by so many workers.
+/// A run of these files, with the frames of a block and of a vector, and the number of workers.
 type Asked = (&'static str, [&'static str; 3], [u32; 3]);
 
 /// The words ask for just this run.

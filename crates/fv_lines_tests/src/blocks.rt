@@ -122,7 +122,7 @@ fn counted_block(first: i32, back: i32) -> [i32; FRAMES as usize] {
     block
 }
 
-// What three lanes show behind the n-th sample of a block, which is `now` on the first lane.
+// What three lanes show after the n-th sample of a block, which is `now` on the first lane.
 fn assert_shown(rt: &impl Abort, solo: &Solo<'_, '_, '_, '_, '_>, n: u64, now: i32)
     requires solo { IsSolo solo.now }
     requires n { n < 4 }
@@ -203,7 +203,7 @@ fn assert_loaded(rt: &impl Abort, solo: &Solo<'_, '_, '_, '_, '_>, first: i32)
     }
 }
 
-// A block of a ring, which is written and read at once, some samples before the end of its cells and the others behind it.
+// A block of a ring, which is written and read at once, some samples before the end of its cells and the others after it.
 fn play_at_once(
     rt: &impl Abort,
     cells: &mut [i32],

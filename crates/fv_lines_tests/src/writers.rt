@@ -47,7 +47,7 @@ fn begin<'a>(
     LaneWriter::begin(part, shape, LaneState { start }, frames)
 }
 
-// The same for a ring.
+// Begins a lane that is a ring.
 fn begin_ring<'a>(
     rt: &impl Abort,
     part: Option<Part<'a>>,

@@ -127,7 +127,7 @@ static REFUSED: [(&str, &[Step]); 7] = [
     ),
 ];
 
-/// Room for so many samples, a table of three items, and cells of two.
+/// Room for `count` samples, a table of three items, and cells of two.
 pub(crate) fn shelf_of(alloc: Global, count: u64) -> Result<Shelf, AllocError>
     requires { count < 1000 }
     ensures { IfOk result (λ s. HasRoom s count) }
@@ -169,7 +169,7 @@ fn code_reads_earlier_steps(rt: HostRuntime) -> Result<(), Fail> {
     Ok(())
 }
 
-/// Runs the running sum over so many samples, one after another.
+/// Runs the running sum over `count` samples, one after another.
 pub(crate) fn sum(code: &Code, input: &[i32], count: u64, registers: &mut [i32], shelf: &mut Shelf)
     requires code { code.now ≡ running_sum }
     requires registers { length registers.old ≡ 7 }

@@ -18,18 +18,27 @@ pub(crate) fn plan_of(alloc: Global, graph: &Graph) -> Result<Plan, AllocError> 
     split(alloc, graph, &rates, &histories)
 }
 
-// A graph as a table, and its plan, which has the graph's tables: the lanes, the cells, which loop reads which, the lanes of the outputs,
-// and how many steps each loop's code has.
+// A graph as a table, and what its plan has. The plan's tables are the graph's.
 struct Row {
+    // What the row is called where it fails.
     name: &'static str,
+    // The signals, in order.
     lines: &'static [Line],
+    // By group: the definitions of its members.
     groups: &'static [&'static [u64]],
+    // The tables, by their numbers.
     tables: &'static [&'static [i32]],
+    // The signals that are outputs.
     outputs: &'static [u64],
+    // By lane: its loop and its history.
     lanes: &'static [LaneInfo],
+    // By cells: the loop and the table.
     cells: &'static [CellsInfo],
+    // Which loop reads which.
     reads: &'static [Reads],
+    // By output: its lane.
     ends: &'static [u64],
+    // By loop: how many steps its code has.
     steps: &'static [u64],
 }
 

@@ -7,7 +7,7 @@ use std::process::Abort;
 use std::test::Fail;
 use test_graphs::{Line, graph_of};
 
-// A chain of so many signals behind an input and a number: one sample earlier, or a sum with the input, in turn.
+// An input, a number, and then a chain of `count` signals: one sample earlier, or a sum with the input, in turn.
 fn chain(alloc: Global, count: u64) -> Result<Vec<Line>, AllocError> {
     let mut lines = Vec::from_slice(alloc, &[Line::Input(0), Line::Const(1)])?;
     let mut last = 0;

@@ -6,17 +6,22 @@ ghost use Rattle.fv_loops_tests.specs.Shelf.{state_in};
 
 use fv_loopcode::Store;
 
-/// A lane: its samples, the length of its history, and how many samples are written; a table; and a list of cells.
+/// A store of one lane, one table and one list of cells.
 #[derive(Drop)]
 pub struct Shelf {
+    /// The history of the lane and the samples that are written, and room for more.
     pub samples: Vec<i32>,
+    /// How many samples the history has.
     pub history: u32,
+    /// How many of the samples are there, those of the history too.
     pub written: u64,
+    /// The items of the table.
     pub table: Vec<i32>,
+    /// The items of the cells.
     pub cells: Vec<i32>,
 }
 
-// The place that an index means among so many items.
+// The place that an index means among `count` items: its own, or the nearest one.
 fn place(count: usize, index: i32) -> usize
     requires { 0 < count }
     ensures is { result ≡ place_of count index }

@@ -12,7 +12,7 @@ use std::alloc::{AllocError, Global};
 use std::process::Abort;
 use std::test::Fail;
 
-/// Scratch for so many steps, whose rows hold what the codes do not look at.
+/// Scratch for `steps` steps, whose rows hold what the codes do not look at.
 pub(crate) fn used(alloc: Global, steps: u64) -> Result<Scratch, AllocError>
     requires { steps < 100 }
     ensures { IfOk result (λ s. IsNew steps s) }
@@ -36,7 +36,7 @@ pub(crate) struct Sides {
     pub(crate) scratch: Scratch,
 }
 
-/// Room for so many samples each, and scratch for so many steps.
+/// Room for `count` samples each, and scratch for `steps` steps.
 pub(crate) fn sides_of(alloc: Global, count: u64, steps: u64) -> Result<Sides, AllocError>
     requires count { count < 1000 }
     requires steps { steps < 100 }
@@ -64,7 +64,7 @@ pub(crate) fn assert_same(rt: &impl Abort, sides: &mut Sides, registers: &[i32])
     assert_are(rt, "registers", sides.scratch.registers(), registers);
 }
 
-// Runs the running sum over so many samples, by strips.
+// Runs the running sum over `count` samples, by strips.
 fn sum_by_strips(code: &Code, input: &[i32], count: u64, scratch: &mut Scratch, shelf: &mut Shelf)
     requires code { code.now ≡ running_sum }
     requires scratch { IsNew 7 scratch.old }

@@ -54,7 +54,7 @@ const WRITTEN_AGAIN: [Step; 9] = [
     Step::Read { table: 0, arg: 6 },
 ];
 
-// Runs either code over so many samples of three inputs.
+// Runs either code over `count` samples of three inputs.
 fn by_samples(code: &Code, input: &[i32], count: u64, registers: &mut [i32], shelf: &mut Shelf)
     requires code { (code.now ≡ written_and_looked_up) ⊎ (code.now ≡ written_again) }
     requires registers { length registers.old ≡ length code.now }
@@ -65,7 +65,7 @@ fn by_samples(code: &Code, input: &[i32], count: u64, registers: &mut [i32], she
     fv_loopcode::run(code.steps(), &[], input, 3, 0, count, registers, shelf);
 }
 
-// The same, by strips.
+// Runs either code over `count` samples of three inputs, by strips.
 fn by_strips(code: &Code, input: &[i32], count: u64, scratch: &mut Scratch, shelf: &mut Shelf)
     requires code { (code.now ≡ written_and_looked_up) ⊎ (code.now ≡ written_again) }
     requires scratch { IsNew (length code.now) scratch.old }

@@ -81,7 +81,7 @@ fn begun<'t>(
     }
 }
 
-// The same, with the two seats apart.
+// A board of these tasks for two workers, with the two seats apart.
 pub(crate) fn two_seats<'t>(
     alloc: Global,
     tasks: &'t Tasks,

@@ -9,10 +9,15 @@ use fv_outside::{Reads, Task};
 use std::process::Abort;
 use std::test::Fail;
 
+// A task of a graph, and what the graph has of it.
 struct Row {
+    // The loop and the vector.
     task: Task,
+    // The edges into it, in order.
     inward: &'static [u64],
+    // The edges out of it, in order.
     outward: &'static [u64],
+    // The inner edges out of it, in order.
     feeds: &'static [u64],
     // How many tasks it reads.
     count: u64,
@@ -125,7 +130,7 @@ fn assert_are_readers(rt: &impl Abort, tasks: &Tasks) {
     }
 }
 
-// With two vectors, the tasks of the second one feed none behind them.
+// With two vectors, the tasks of the second one feed none after them.
 fn assert_has_two_vectors(rt: &impl Abort, tasks: &Tasks) {
     assert_eq!(rt; (tasks.len(), tasks.edges()), (4, 8));
     for t in 2..4u64 {

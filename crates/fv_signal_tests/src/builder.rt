@@ -1,4 +1,4 @@
-// Graphs that are built. What a test puts is put by functions that borrow the builder, so they let go of nothing where memory ends.
+// Graphs that are built. What a test puts is put by functions that borrow the builder, so they drop nothing where memory ends.
 
 ghost use Rattle.std.specs.Prelude.{◌≡◌, ◌<◌, [], ◌∷◌, All, IfOk, OnOk, length};
 ghost use Rattle.fv_share.specs.Drafts.{AreClosed, lists_in};
@@ -124,7 +124,7 @@ fn what_was_put_is_read(rt: HostRuntime) -> Result<(), Fail> {
     put_late(&rt, &mut builder)
 }
 
-// So many groups that are opened, and the first one's number.
+// `count` groups that are opened, and the first one's number.
 struct Opened {
     name: &'static str,
     count: u64,
@@ -242,7 +242,7 @@ fn equal_lists_are_one_table(rt: HostRuntime) -> Result<(), Fail> {
     Ok(())
 }
 
-// A list, and the tables of a graph behind it.
+// A list, and the tables of a graph after it.
 fn put_tables(rt: &impl Abort, builder: &mut Builder, graph: &Graph) -> Result<(), AllocError>
     requires { builder.old ≡ empty }
     ensures { OnOk result (AreClosed builder.new) }
@@ -260,7 +260,7 @@ fn assert_tables(rt: &impl Abort, graph: &Graph) {
     assert!(rt; graph.table(1) == [7, 8].as_slice(), "the second");
 }
 
-// The tables of a graph come behind those that are there, also where a list is there already.
+// The tables of a graph come after those that are there, also where a list is there already.
 #[test]
 fn tables_come_behind_others(rt: HostRuntime) -> Result<(), Fail> {
     let graph = graph_over(rt.alloc(), &[], &[], &[&[7, 8], &[7]], &[])?;

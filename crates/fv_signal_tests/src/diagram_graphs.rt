@@ -130,7 +130,7 @@ static EXPRESSIONS: [&str; 33] = [
     "rwtable(4, 1, _, _, _) ~ %(4)",
 ];
 
-// What a graph gives on these samples, so many in a frame.
+// What a graph gives on these samples, `width` in a frame.
 fn given(
     alloc: Global,
     graph: &Graph,

@@ -8,13 +8,19 @@ use std::process::Abort;
 use std::test::Fail;
 use test_graphs::{Line, graph_over};
 
-// A graph as a table, and of each signal its rate, its history, and for which signal it stands.
+// A graph as a table, and what is found of its signals.
 struct Row {
+    // What the row is called where it fails.
     name: &'static str,
+    // The signals, in order.
     lines: &'static [Line],
+    // By group: the definitions of its members.
     groups: &'static [&'static [u64]],
+    // The tables, by their numbers.
     tables: &'static [&'static [i32]],
+    // The signals that are outputs.
     outputs: &'static [u64],
+    // By signal: its rate, its history, and for which signal it stands.
     wanted: &'static [(Rate, u32, u64)],
 }
 

@@ -7,7 +7,7 @@ use std::process::Abort;
 use std::test::Fail;
 use test_graphs::{Line, graph_of};
 
-// A graph as a table, and of its first output, once it is simpler, the number by which it is late, and whether that is of this signal.
+// A graph as a table. Of its first output, once it is simpler, by how many samples it is late, and whether that is of this signal.
 type Row<'a> = (&'a [Line], &'a [u64], u32, Signal, bool);
 
 const ROWS: [Row; 5] = [
@@ -55,7 +55,7 @@ const ROWS: [Row; 5] = [
         Signal::Input(0),
         false,
     ),
-    // and so does one where both together are over the limit.
+    // A delay stays where both together are over the limit.
     (
         &[
             Line::Input(0),

@@ -41,7 +41,7 @@ fn a_product_wraps_before_it_is_divided(rt: HostRuntime) -> Result<(), Fail> {
     Ok(())
 }
 
-// A running sum behind its member, which nothing else reads; a signal that no output reaches is left out.
+// A running sum after its member, which nothing else reads; a signal that no output reaches is left out.
 #[test]
 fn feedback_stays_and_the_rest_goes(rt: HostRuntime) -> Result<(), Fail> {
     let lines = [

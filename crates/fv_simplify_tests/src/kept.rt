@@ -35,7 +35,7 @@ fn assert_kept(
     Ok(())
 }
 
-// So many samples from -1000 to 999.
+// `count` samples from -1000 to 999.
 fn noise(alloc: Global, numbers: &mut Numbers, count: usize) -> Result<Vec<i32>, AllocError> {
     let mut samples = Vec::new(alloc);
     for _ in 0..count {

@@ -7,7 +7,7 @@ use std::process::Abort;
 use std::test::Fail;
 use test_graphs::{Line, graph_of};
 
-// So many rounds behind the input and three numbers: nothing is added, a delay by 1 and one by 2, nothing again, and the input.
+// The input, three numbers, and then `count` rounds: nothing is added, a delay by 1 and one by 2, nothing again, and the input.
 fn rounds(alloc: Global, count: u64) -> Result<Vec<Line>, AllocError> {
     let first = [
         Line::Input(0),

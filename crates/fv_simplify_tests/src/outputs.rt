@@ -24,7 +24,7 @@ fn by_number(graph: &Graph, s: SignalId) -> Option<(Signal, u32)> {
     }
 }
 
-/// The same of the first output.
+/// The signal that the first output delays by a number, and by how many samples.
 pub(crate) fn first_by_number(graph: &Graph) -> Option<(Signal, u32)> {
     match graph.outputs() {
         [s, ..] => by_number(graph, *s),

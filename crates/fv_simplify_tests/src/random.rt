@@ -15,7 +15,7 @@ pub(crate) struct Numbers {
 }
 
 impl Numbers {
-    /// The next one: below so many, which are few.
+    /// The next number, below `count`, which is small.
     pub(crate) fn below(&mut self, count: u64) -> u64
         ensures { 0 < count → result < count }
     {
@@ -70,7 +70,7 @@ const LATE: [(u64, u32); 4] = [(1, 1), (3, 2), (4, 3), (5, 5)];
 // Two tables.
 const TABLES: [&[i32]; 2] = [&[5, -1, 0, 700, -32], &[9, 2]];
 
-// One of the first so many lines: any, one of those that stand first, or one of the latest.
+// One of the first `count` lines: any, one of those that stand first, or one of the latest.
 fn pick(numbers: &mut Numbers, count: u64) -> u64 {
     match numbers.below(4) {
         0 => numbers.below(count),
@@ -79,7 +79,7 @@ fn pick(numbers: &mut Numbers, count: u64) -> u64 {
     }
 }
 
-// A line over the first so many, which may be a member of this group a sample earlier.
+// A line over the first `count`, which may be a member of this group a sample earlier.
 fn any(numbers: &mut Numbers, count: u64, group: u64) -> Line {
     let kind = numbers.below(8);
     if kind == 0 {
@@ -106,7 +106,7 @@ fn any(numbers: &mut Numbers, count: u64, group: u64) -> Line {
     Line::Point(op, [x, y, z, pick(numbers, count)])
 }
 
-// A group more: so many lines that may read its members a sample earlier, three of them as its members, and two of these.
+// A group more: `more` lines that may read its members a sample earlier, three of the lines as its members, and two of these.
 fn grow(
     lines: &mut Vec<Line>,
     numbers: &mut Numbers,

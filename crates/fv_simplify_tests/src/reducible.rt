@@ -90,7 +90,8 @@ fn is_definition(graph: &Graph, s: SignalId) -> bool {
     false
 }
 
-// Each signal that reads this one, which is later than another by c, is a delay of it by a number, which with c is within the limit.
+// Whether each signal that reads this one is a delay of it by a number that fits into the limit together with c. This one is later
+// than another by c.
 fn can_take_over(graph: &Graph, y: SignalId, c: i32) -> bool {
     for place in 0..graph.len() {
         let r = SignalId::new(place);
@@ -159,7 +160,7 @@ fn rule_of_operation(graph: &Graph, op: Op, operands: &[SignalId]) -> Option<Rul
     }
 }
 
-// Why a delay of x by d up to so many samples can be made simpler.
+// Why a delay of x by d, of at most `max` samples, can be made simpler.
 fn rule_of_delay(graph: &Graph, x: SignalId, d: SignalId, max: u32) -> Option<Rule> {
     if number(graph, x) == Some(0) {
         return Some(Rule::OfNothing);

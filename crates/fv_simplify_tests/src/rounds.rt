@@ -8,8 +8,8 @@ use std::process::Abort;
 use std::test::Fail;
 use test_graphs::{Line, Sound, given, graph_of};
 
-// A shift register of so many cells, each of which is the one before a sample earlier and 1 more; the first one has the input.
-// After it two running sums of the input, which are equal.
+// A shift register of `cells` cells: each is the one before it a sample earlier and 1 more, and the first one has the input. After
+// it come two running sums of the input, which are equal.
 fn register(alloc: Global, cells: u64) -> Result<Graph, Fail> {
     let mut lines = Vec::from_slice(alloc, &[Line::Input(0), Line::Const(1)])?;
     let mut members = Vec::from_slice(alloc, &[0u64])?;
@@ -62,7 +62,7 @@ fn a_long_register_stays(rt: HostRuntime) -> Result<(), Fail> {
     Ok(())
 }
 
-// So many chains of counters, each as deep: a counter counts by the one before it, and the first ones by the input.
+// `count` chains of `deep` counters each. A counter counts by the one before it, and the first ones by the input.
 fn chains(alloc: Global, count: u64, deep: u64) -> Result<Vec<Line>, AllocError> {
     let mut lines = Vec::from_slice(alloc, &[Line::Input(0)])?;
     let mut group = 0u64;
@@ -94,7 +94,8 @@ fn chained(alloc: Global, count: u64, deep: u64) -> Result<Graph, Fail> {
     graph_of(alloc, &lines, &lists, &[last.wrapping_sub(1)])
 }
 
-// The signal of the first chain that is this one in its own chain, where chains have so many signals; signal 0 is the input.
+// The signal of the first chain that stands where this one stands in its own chain. Chains have `long` signals, and signal 0 is the
+// input.
 fn in_first(place: u64, long: u64) -> u64 {
     let Some(after) = place.checked_sub(1) else {
         return 0;

@@ -8,7 +8,7 @@ use std::process::Abort;
 use std::test::Fail;
 use test_graphs::{Sound, given};
 
-// What is heard, and what is given in so many frames.
+// What is heard, and what is given in `frames` frames.
 struct Heard {
     sound: Sound<'static>,
     frames: usize,
@@ -68,13 +68,19 @@ fn jobs_alone(rt: HostRuntime) -> Result<(), Fail> {
     Ok(())
 }
 
-// Jobs together, and how many outputs, groups and tables their graph has.
+// Jobs together, and what their graph has.
 struct Together {
+    // What the row is called where it fails.
     name: &'static str,
+    // The jobs, in order.
     kinds: &'static [Kind],
+    // What is heard, and what is given for it.
     heard: Heard,
+    // How many outputs the graph has.
     outputs: usize,
+    // How many groups the graph has.
     groups: u64,
+    // How many tables the graph has.
     tables: u64,
 }
 

@@ -30,7 +30,7 @@ const ROWS: [(&str, &str, &str); 9] = [
         "_ : twice",
         "_ <: twice, twice, (inner, twice : !, _)",
     ),
-    // and a chain of such.
+    // A chain of nine feedbacks in feedback.
     (
         "inner = + ~ (_ / 2); twice = (+ : inner) ~ (_ / 3); chain = seq(i, 9, twice);",
         "_ : chain",
@@ -42,7 +42,7 @@ const ROWS: [(&str, &str, &str); 9] = [
         "_, _ : pair",
         "_, _ <: pair, pair",
     ),
-    // and the same two in another order.
+    // Two members that read each other, and the two in another order.
     (
         "a(p, q, x) = p + q + x; b(p, q, y) = p - q * 3 + y;
          pair(p, q, x, y) = a(p, q, x), b(p, q, y); other(q, p, x, y) = b(p, q, y), a(p, q, x);",

@@ -46,7 +46,7 @@ fn sizes_of(gate: &Recorder, block: u32) -> Option<(u64, u32, usize, usize)> {
     Some((loops, vectors, reads.len(), lines.len()))
 }
 
-// A gate was told of so many blocks.
+// A gate was told of the wanted number of blocks.
 fn assert_calls(rt: &impl Abort, gate: &Recorder, wanted: Option<u32>) {
     assert_eq!(rt; gate.calls(), wanted);
 }

@@ -34,7 +34,7 @@ const ODD: [u8; 86] = [
     6, 0, 0, 0, 1, 0, 0, 254, 255, 255,
 ];
 
-// The same samples after a plain head.
+// Two samples of 24 bits, 1 and -2, after a plain head.
 const PLAIN: [u8; 50] = [
     82, 73, 70, 70, 42, 0, 0, 0, 87, 65, 86, 69, 102, 109, 116, 32, 16, 0, 0, 0, 1, 0, 1, 0, 68,
     172, 0, 0, 204, 4, 2, 0, 3, 0, 24, 0, 100, 97, 116, 97, 6, 0, 0, 0, 1, 0, 0, 254, 255, 255,
@@ -44,7 +44,7 @@ const PLAIN: [u8; 50] = [
 const AU_THREE: [u8; 30] =
     *b".snd\0\0\0\x18\0\0\0\x06\0\0\0\x03\0\0\xac\x44\0\0\0\x01\0\x01\xff\xfe\0\x03";
 
-// The same, where the size is not stated.
+// Three samples of 16 bits, 1, -2 and 3, in an AU file whose size is not stated.
 const AU_OPEN: [u8; 30] =
     *b".snd\0\0\0\x18\xff\xff\xff\xff\0\0\0\x03\0\0\xac\x44\0\0\0\x01\0\x01\xff\xfe\0\x03";
 
@@ -78,7 +78,7 @@ const AU_OPEN_ROW: Row = (
     (0, "done 3 frames\n", &AU_THREE),
 );
 
-// A desk that gives and takes so many bytes at a time.
+// A desk that gives and takes `size` bytes at a time.
 fn desk_in_pieces(
     alloc: Global,
     text: &str,
@@ -118,7 +118,7 @@ fn fault_line(role: Role) -> &'static str {
     }
 }
 
-// What is seen of a run whose call for a role failed: its line alone, behind what was reported before only where the report failed, and
+// What is seen of a run whose call for a role failed: its line alone, after what was reported before only where the report failed, and
 // of the whole output a part from the front.
 fn is_fault(desk: &MemoryDesk, role: Role, output: &[u8]) -> bool {
     let line = fault_line(role).as_bytes();
@@ -128,7 +128,7 @@ fn is_fault(desk: &MemoryDesk, role: Role, output: &[u8]) -> bool {
         && output.starts_with(desk.written(Role::Output))
 }
 
-// A call for a role, with so many bytes at a time, that is refused.
+// A call for a role, with `size` bytes at a time, that is refused.
 #[derive(Clone, Copy)]
 struct Fault {
     role: Role,
@@ -168,7 +168,7 @@ fn ends_by_fault(
     Err(Fail::new(format_args!("{role:?} {size} {call}: {ended}")))
 }
 
-// The same of the desk of its row.
+// Whether a run ends by the fault, on the desk of its row.
 fn fails(
     rt: &(impl Threads + Wait + Sync),
     alloc: Global,
@@ -181,7 +181,7 @@ fn fails(
     ends_by_fault(rt, alloc, &mut desk, row, fault)
 }
 
-// How many calls of a role a run makes, with so many bytes at a time: each of them is refused in turn, and the next one is not made.
+// How many calls of a role a run makes, with `size` bytes at a time. Each of them is refused in turn, and the next one is not made.
 fn calls_that_fail(
     rt: &(impl Threads + Wait + Sync),
     alloc: Global,
@@ -282,7 +282,7 @@ fn ends_alike(
     Ok(true)
 }
 
-// The same of a call for a role.
+// Whether a call for a role is refused; then the answer and the output are what they are where the run can report.
 fn ends_alike_in_silence(
     rt: &(impl Threads + Wait + Sync),
     alloc: Global,

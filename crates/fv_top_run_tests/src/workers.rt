@@ -84,8 +84,8 @@ fn two_workers_have_a_table_each(rt: HostRuntime) -> Result<(), Fail> {
     Ok(())
 }
 
-// A file of two channels, in which three frames, so many apart and the last one the last, have these samples twice, and all others are
-// silent.
+// A file of two channels. Three frames, `apart` frames apart, have these samples twice, and all others are silent. The third one is
+// the last.
 fn thirds(alloc: Global, apart: usize, loud: [i32; 3]) -> Result<Vec<u8>, AllocError>
     requires { apart < 1000000 }
 {
@@ -119,7 +119,7 @@ fn echo_desk(alloc: Global, echo: Echo) -> Result<MemoryDesk, AllocError>
     desk_of(alloc, text.as_bytes(), &input)
 }
 
-// What is written is the echoes of 1000 in two channels, half as loud after so many frames.
+// What is written is the echoes of 1000 in two channels, half as loud after each `apart` frames.
 fn assert_echoes(alloc: Global, written: &[u8], apart: usize, words: &[&str]) -> Result<(), Fail>
     requires { apart < 1000000 }
 {

@@ -1,8 +1,8 @@
 //! Blocks by crews of workers, over and over.
 //!
-//! `steal_rounds rounds FIRST COUNT` makes so many plans at random, from the number FIRST on, and runs each by crews of 1, 2, 4 and 16
-//! workers: every task runs once, and the journal is in order. `steal_rounds plan LOOPS VECTORS PERCENT WORKERS COUNT` runs one plan so
-//! often, for whoever measures it: in it each loop reads each lower one in so many of a hundred cases.
+//! `steal_rounds rounds FIRST COUNT` makes COUNT plans at random, from the number FIRST on, and runs each by crews of 1, 2, 4 and 16
+//! workers: every task runs once, and the journal is in order. `steal_rounds plan LOOPS VECTORS PERCENT WORKERS COUNT` runs one plan
+//! COUNT times, for whoever measures it. In the plan each loop reads each lower one in PERCENT of a hundred cases.
 #![tactic(auto)]
 
 ghost use Rattle.std.specs.Prelude.{◌<◌, ◌≤◌};
@@ -38,7 +38,7 @@ fn number(words: &[String], place: usize) -> Result<u32> {
     Ok(word.as_str().parse::<u32>()?)
 }
 
-// A block of these tasks by so many workers: each task ran once, and all is in order.
+// Runs a block of these tasks by `count` workers: each task ran once, and all is in order.
 fn look_at_block<R: Threads + Wait + Sync>(
     rt: &R,
     alloc: Global,

@@ -8,7 +8,7 @@ use Rattle.fv_graph.specs.Graph.{no_reads}
 use Rattle.fv_graph.proofs.lemmas.Counts.{bit_le, bit_apart, bit_false, bit_right, total_append, total_zero}
 use Rattle.test_blocks.specs.Pairs.{AreBefore}
 
--- what holds at each place holds with one more behind
+-- what holds at each place holds with one more after
 each_push : {X : Type 0} (P : X → Type 0) (xs : List X) (y d : X) → ((k : ℕ) → k < length xs → P (get_or xs k d)) → P y → (k : ℕ)
     → k < length (xs ++ y ∷ []) → P (get_or (xs ++ y ∷ []) k d)
 each_push P [] y d h p zero l = p

@@ -43,7 +43,7 @@ fn seats_of(workers: Vec<Worker<Note>>, mut seats: Vec<WorkerSeat<Note>>) -> Vec
     seats
 }
 
-/// A block of these tasks by so many workers.
+/// Runs a block of these tasks by `count` workers.
 pub fn ran<R: Threads + Wait + Sync, G: Gate + Sync>(
     rt: &R,
     alloc: Global,

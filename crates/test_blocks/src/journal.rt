@@ -69,13 +69,13 @@ fn are_in_order(table: &Table, first: &Line, other: &Line) -> bool {
         && (!does_read(table, first.task, other.task) || other.finish < first.start)
 }
 
-// The line is valid, and in order with each of those behind it.
+// The line is valid, and in order with each of those after it.
 fn leads(tasks: &Tasks, table: &Table, line: &Line, behind: &[Line]) -> bool {
     is_valid(tasks, line) && behind.iter().all(|other| are_in_order(table, line, other))
 }
 
-/// Whether the lines are the ordered journal of the tasks: one line for each task and no other, no stamp twice, each start before its
-/// finish, each task after all that it reads, and the lines in the order of their starts.
+/// Whether the lines are the ordered journal of the tasks: one line for each task and no other, in the order of their starts. No
+/// stamp stands twice, each start is before its finish, and each task comes after all that it reads.
 pub fn is_ordered(alloc: Global, tasks: &Tasks, lines: &[Line]) -> Result<bool, AllocError> {
     let cells = cells_of(alloc, tasks)?;
     let table = Table {

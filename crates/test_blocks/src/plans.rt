@@ -10,10 +10,10 @@ use rand_core::Rng;
 use rand_pcg::Pcg32;
 use std::alloc::{AllocError, Global};
 
-// So many tasks at most.
+// The most tasks of a block.
 const MOST_TASKS: u32 = 200;
 
-// A loop reads each lower one, or not, as the dice fall: in so many of a hundred cases.
+// Has a loop read each lower one or not, at random: in `percent` of a hundred cases.
 fn add_pairs(
     rng: &mut Pcg32,
     percent: u32,
@@ -33,7 +33,7 @@ fn add_pairs(
     Ok(())
 }
 
-// Pairs of so many loops, each source lower than its reader.
+// Random pairs of `loops` loops, each source lower than its reader.
 fn random_pairs(
     alloc: Global,
     rng: &mut Pcg32,
@@ -49,7 +49,7 @@ fn random_pairs(
     Ok(pairs)
 }
 
-/// Tasks of so many loops and vectors, in which each loop reads each lower one in so many of a hundred cases.
+/// Tasks of `loops` loops and `vectors` vectors, in which each loop reads each lower one in `percent` of a hundred cases.
 pub fn tasks_with(
     alloc: Global,
     rng: &mut Pcg32,

@@ -4,7 +4,7 @@ use fv_outside::{Gate, Line, Reads, Task};
 use std::sync::atomic::{AtomicU64, Ordering};
 use std::thread;
 
-// After so many looks a gate notes a miss and lets the task run.
+// After this many looks a gate notes a miss and lets the task run.
 const LOOKS: u64 = 100_000_000;
 
 // Looks until something is seen. Whether it was.
@@ -38,7 +38,7 @@ impl Until {
         }
     }
 
-    /// A task was let go before its time, since the other one did not come.
+    /// Whether a task ran before its time, since the other one did not come.
     pub fn missed(&self) -> bool {
         self.misses.load(Ordering::SeqCst) != 0
     }
@@ -64,10 +64,15 @@ impl Gate for Until {
 /// Holds the tasks of each of two loops until one of the other is about to run: without a miss two of them ran at once.
 #[derive(Drop)]
 pub struct Meeting {
+    // The number of one of the two loops.
     one: u64,
+    // The number of the other loop.
     other: u64,
+    // 1 once a task of the one loop is about to run, else 0.
     seen_one: AtomicU64,
+    // 1 once a task of the other loop is about to run, else 0.
     seen_other: AtomicU64,
+    // 1 once a task ran without having met one of the other loop, else 0.
     misses: AtomicU64,
 }
 
@@ -83,7 +88,7 @@ impl Meeting {
         }
     }
 
-    /// A task was let go before its time, since the other one did not come.
+    /// Whether a task ran before its time, since the other one did not come.
     pub fn missed(&self) -> bool {
         self.misses.load(Ordering::SeqCst) != 0
     }

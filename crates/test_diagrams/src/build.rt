@@ -48,7 +48,7 @@ impl Model for Build {
     ghost invariant = { λ a. (a.count ≡ count_of a.diagrams) × (a.lists ≡ length a.diagrams.lists) × AllCanRun a.diagrams };
 }
 
-// Whether a node may be put over the first so many diagrams and lists.
+// Whether a node may be put over the first `count` diagrams and the first `lists` lists.
 fn is_allowed(node: &Node, count: u64, lists: u64) -> bool
     ensures { IsTrue result → IsAllowed count lists node.now }
 {
@@ -68,7 +68,7 @@ fn is_allowed(node: &Node, count: u64, lists: u64) -> bool
     }
 }
 
-// The same, as a result.
+// Refuses a node that may not be put over the first `count` diagrams and the first `lists` lists.
 fn allow(node: &Node, count: u64, lists: u64) -> Result<(), Unput>
     ensures { OnOk result (IsAllowed count lists node.now) }
 {

@@ -72,7 +72,8 @@ pub fn play_script(
     )
 }
 
-// The same through the values of the controls and a frame of the outputs.
+// What the diagram answers, by a runner. `values` has the controls' values as they change, and `out` is room for a frame of the
+// outputs.
 fn play_with(
     alloc: Global,
     diagrams: &Diagrams,
@@ -95,6 +96,7 @@ fn play_with(
     requires out { length out.old ≡ outputs (tree_of diagrams.now root) }
     ensures { IfOk result (λ v. v.items ≡ answer_on (tree_of diagrams.now root) (control_streams changes.now values.old) frames samples.now) }
 {
+    // For the prover: one frame more adds a frame to the answer, which depends on the controls' values at its frames alone.
     answers_each();
     answers_one_more();
     answers_alike();

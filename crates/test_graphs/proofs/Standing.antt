@@ -33,7 +33,7 @@ item_fits (x ∷ xs) (suc i) h = item_fits xs i (All-tail (λ n. FitsSigned w32 
 pub none_fit : HaveNumbers []
 none_fit t i = omega (arith, ints)
 
--- tables, and one more behind them
+-- tables, and one more after them
 pub more_fit : (tables : List (List ℤ)) (T : List ℤ) → HaveNumbers tables → All (λ n. FitsSigned w32 n) T → HaveNumbers (tables ++ T ∷ [])
 more_fit [] T h fits zero i = item_fits T i fits
 more_fit [] T h fits (suc t) i = omega (arith, ints)

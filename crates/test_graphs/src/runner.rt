@@ -4,7 +4,7 @@ use fv_num::{Op, apply};
 use fv_signal::{Graph, Signal, SignalId};
 use std::alloc::{AllocError, Global};
 
-/// What is heard: a number for each control, which it keeps, and samples, so many in a frame, one frame after another.
+/// What is heard: a number for each control, which it keeps, and samples, `width` in a frame, one frame after another.
 #[derive(Clone, Copy)]
 pub struct Sound<'a> {
     pub controls: &'a [i32],
@@ -81,8 +81,8 @@ fn place(list: &[i32], index: i32) -> u64 {
     u64::from(index.cast_unsigned()).min(list.len() as u64 - 1)
 }
 
-// What the place at the third signal has of a list in which the second is written at the first at each time: what was written
-// there last, and the list's own number where nothing was.
+// What a written table has at the index that the third signal gives. At each time the second signal's number is written at the
+// index that the first one gives. Where nothing was written, the table has its own number.
 fn written(list: &[i32], signals: [u64; 3], before: &[Vec<i32>], now: &[i32]) -> i32 {
     let here = place(list, number_at(now, signals[2]));
     if place(list, number_at(now, signals[0])) == here {
@@ -147,7 +147,7 @@ fn values(
     Ok(now)
 }
 
-/// What the outputs of a graph give in so many frames, one after another; a sample that is not there is 0.
+/// What the outputs of a graph give in `frames` frames, one after another. A sample that is not there is 0.
 pub fn given(
     alloc: Global,
     graph: &Graph,

@@ -20,7 +20,7 @@ pub enum Line {
     Point(Op, [u64; 4]),
     /// An operation on two lines.
     Pair(Op, u64, u64),
-    /// A line as many samples earlier as another one says, and so many at most.
+    /// A line as many samples earlier as another one says, and at most this many.
     Delay(u64, u64, u32),
     /// A member of a group one sample earlier.
     Back(u64, u64),
@@ -83,7 +83,7 @@ fn number(number: &i32) -> i32
     value
 }
 
-// The same numbers.
+// A list of these numbers.
 fn list_of(alloc: Global, numbers: &[i32]) -> Result<Vec<i32>, AllocError>
     ensures { IfOk result (λ list. All (λ n. FitsSigned w32 n) list.items) }
 {
@@ -94,7 +94,7 @@ fn list_of(alloc: Global, numbers: &[i32]) -> Result<Vec<i32>, AllocError>
     Ok(list)
 }
 
-// The same lists.
+// Tables of these lists.
 fn tables_of(alloc: Global, lists: &[&[i32]]) -> Result<Vec<Vec<i32>>, AllocError>
     ensures { IfOk result (λ tables. HaveNumbers (graph_with [] [] tables.items []).tables) }
 {
@@ -113,7 +113,7 @@ fn are_before(ids: &[SignalId], place: u64) -> bool
     ids.iter().all(|id| id.number() < place)
 }
 
-// The groups' definitions stand among so many signals.
+// Whether the groups' definitions stand among the signals.
 fn are_defined(signals: &[Signal], groups: &[Vec<SignalId>]) -> bool
     ensures { IsTrue result → (group : ℕ) → group < length groups.now
         → All (λ s. s < length signals.now) (members (graph_with signals.now groups.now [] []) group) }
@@ -216,7 +216,7 @@ pub fn graph_over(
     Ok(Graph::new(signals, definitions, lists, outs))
 }
 
-/// The same of lines that name no table.
+/// The graph of lines that name no table.
 pub fn graph_of(
     alloc: Global,
     lines: &[Line],

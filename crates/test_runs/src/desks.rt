@@ -53,7 +53,7 @@ pub fn desk_of(alloc: Global, text: &[u8], input: &[u8]) -> Result<MemoryDesk, A
     Ok(desk)
 }
 
-// A run with these words behind the program's own name.
+// A run with these words after the program's own name.
 fn run_of<G: Gate + Sync>(
     rt: &(impl Threads + Wait + Sync),
     alloc: Global,

@@ -21,7 +21,7 @@ pub type Played<'a> = (
     &'a str,
 );
 
-/// A file of so many channels of 16 bits at 44100 frames a second.
+/// A file of `channels` channels of 16 bits at 44100 frames a second.
 pub fn file_of(alloc: Global, channels: u32, samples: &[i32]) -> Result<Vec<u8>, AllocError> {
     let size = u32::try_from(samples.len()).unwrap_or(0).wrapping_mul(2);
     let mut head = HEAD;

@@ -30,7 +30,7 @@ answered sure (writes role) = (sure.unfailing Output, sure.room Output)
 
 pub returns : goal.returns
 returns g c =
-    -- behind the facts on the type parameters
+    -- after the facts on the type parameters
     let sure = c.requires.1.1.1.1.1 in
     let p = sure.plays in
     c.run_faustvec.ensures.complete (Playing g.run) sure.asks sure.tells
