@@ -50,211 +50,177 @@ fn stand(stands: &[SignalId], x: SignalId) -> u64
     stands[x.number() as usize].number()
 }
 
-// The register of what a signal stands for.
-fn operand_of(
-    code: &mut Vec<Step>,
-    survey: &Survey,
-    registers: &[u64],
+/// What the code of one loop is made from.
+#[derive(Clone, Copy)]
+struct Emitter<'a> {
+    /// What is known of the signals of the graph, and of its lanes and cells.
+    survey: &'a Survey,
+    /// The register of each signal that has a step in its loop's code so far, by the signal's number.
+    registers: &'a [u64],
+    /// The number of the loop.
     own: u64,
-    x: SignalId,
-) -> Result<u64, AllocError>
-    requires survey { IsSurvey (length registers.now) survey.now }
-    requires x { x < length registers.now }
-    ensures { IfOk result (λ w. StoodNow survey.now registers.now own code.old.items code.new.items x w) }
-{
-    let s = stand(&survey.stands, x);
-    operand(
-        code,
-        survey.kinds[s as usize],
-        registers,
-        &survey.owners,
-        own,
-        s,
-    )
 }
 
-// An operation.
-fn point(
-    code: &mut Vec<Step>,
-    survey: &Survey,
-    registers: &[u64],
-    own: u64,
-    op: Op,
-    args: [SignalId; 4],
-) -> Result<u64, AllocError>
-    requires survey { IsSurvey (length registers.now) survey.now }
-    requires args { All (λ a. a < length registers.now) args }
-    ensures { IfOk result (λ w. ComputesNow survey.now registers.now own code.old.items code.new.items (signal.Point op args) w) }
-{
-    let signals = stood(&survey.stands, args);
-    let n = op.inputs() as usize;
-    let found = operands(
-        code,
-        &survey.kinds,
-        registers,
-        &survey.owners,
-        own,
-        &signals[..n],
-    )?;
-    push(code, Step::Point { op, args: found })
-}
+impl Emitter<'_> {
+    // The register of what a signal stands for.
+    fn operand_of(&self, code: &mut Vec<Step>, x: SignalId) -> Result<u64, AllocError>
+        requires survey { IsSurvey (length self.now.registers.now) self.now.survey.now }
+        requires x { x < length self.now.registers.now }
+        ensures { IfOk result (λ w. StoodNow self.now.survey.now self.now.registers.now self.now.own code.old.items code.new.items x w) }
+    {
+        let s = stand(&self.survey.stands, x);
+        operand(
+            code,
+            self.survey.kinds[s as usize],
+            self.registers,
+            &self.survey.owners,
+            self.own,
+            s,
+        )
+    }
 
-// A delay that never goes back.
-fn still(
-    code: &mut Vec<Step>,
-    survey: &Survey,
-    registers: &[u64],
-    own: u64,
-    x: SignalId,
-    d: SignalId,
-) -> Result<u64, AllocError>
-    requires survey { IsSurvey (length registers.now) survey.now }
-    requires x { x < length registers.now }
-    ensures { IfOk result (λ w. ComputesNow survey.now registers.now own code.old.items code.new.items (signal.Delay x d 0) w) }
-{
-    let w = operand_of(code, survey, registers, own, x)?;
-    push(
-        code,
-        Step::Point {
-            op: Op::Max,
-            args: [w, w, w, w],
-        },
-    )
-}
+    // An operation.
+    fn point(&self, code: &mut Vec<Step>, op: Op, args: [SignalId; 4]) -> Result<u64, AllocError>
+        requires survey { IsSurvey (length self.now.registers.now) self.now.survey.now }
+        requires args { All (λ a. a < length self.now.registers.now) args }
+        ensures { IfOk result (λ w. ComputesNow self.now.survey.now self.now.registers.now self.now.own code.old.items code.new.items (signal.Point op args) w) }
+    {
+        let signals = stood(&self.survey.stands, args);
+        let n = op.inputs() as usize;
+        let found = operands(
+            code,
+            &self.survey.kinds,
+            self.registers,
+            &self.survey.owners,
+            self.own,
+            &signals[..n],
+        )?;
+        push(code, Step::Point { op, args: found })
+    }
 
-// A delay that may go back.
-fn delayed(
-    code: &mut Vec<Step>,
-    survey: &Survey,
-    registers: &[u64],
-    own: u64,
-    x: SignalId,
-    d: SignalId,
-    max: u32,
-) -> Result<u64, AllocError>
-    requires survey { IsSurvey (length registers.now) survey.now }
-    requires x { x < length registers.now }
-    requires d { d < length registers.now }
-    requires max { 1 ≤ max }
-    ensures { IfOk result (λ w. ComputesNow survey.now registers.now own code.old.items code.new.items (signal.Delay x d max) w) }
-{
-    let back = operand_of(code, survey, registers, own, d)?;
-    let source = stand(&survey.stands, x);
-    let lane = survey.lanes[source as usize].unwrap_or(0);
-    push(
-        code,
-        Step::Load {
-            lane,
-            back,
-            max: max as u64,
-        },
-    )
-}
+    // A delay that never goes back.
+    fn still(&self, code: &mut Vec<Step>, x: SignalId, d: SignalId) -> Result<u64, AllocError>
+        requires survey { IsSurvey (length self.now.registers.now) self.now.survey.now }
+        requires x { x < length self.now.registers.now }
+        ensures { IfOk result (λ w. ComputesNow self.now.survey.now self.now.registers.now self.now.own code.old.items code.new.items (signal.Delay x d 0) w) }
+    {
+        let w = self.operand_of(code, x)?;
+        push(
+            code,
+            Step::Point {
+                op: Op::Max,
+                args: [w, w, w, w],
+            },
+        )
+    }
 
-// An item of a table.
-fn read(
-    code: &mut Vec<Step>,
-    survey: &Survey,
-    registers: &[u64],
-    own: u64,
-    table: u64,
-    r: SignalId,
-) -> Result<u64, AllocError>
-    requires survey { IsSurvey (length registers.now) survey.now }
-    requires r { r < length registers.now }
-    ensures { IfOk result (λ w. ComputesNow survey.now registers.now own code.old.items code.new.items (signal.Read table r) w) }
-{
-    let arg = operand_of(code, survey, registers, own, r)?;
-    push(code, Step::Read { table, arg })
-}
+    // A delay that may go back.
+    fn delayed(
+        &self,
+        code: &mut Vec<Step>,
+        x: SignalId,
+        d: SignalId,
+        max: u32,
+    ) -> Result<u64, AllocError>
+        requires survey { IsSurvey (length self.now.registers.now) self.now.survey.now }
+        requires x { x < length self.now.registers.now }
+        requires d { d < length self.now.registers.now }
+        requires max { 1 ≤ max }
+        ensures { IfOk result (λ w. ComputesNow self.now.survey.now self.now.registers.now self.now.own code.old.items code.new.items (signal.Delay x d max) w) }
+    {
+        let back = self.operand_of(code, d)?;
+        let source = stand(&self.survey.stands, x);
+        let lane = self.survey.lanes[source as usize].unwrap_or(0);
+        push(
+            code,
+            Step::Load {
+                lane,
+                back,
+                max: max as u64,
+            },
+        )
+    }
 
-// A table that is written and then read, which is signal s. Its operands are where and what is written, and where it is read.
-fn written(
-    code: &mut Vec<Step>,
-    survey: &Survey,
-    registers: &[u64],
-    own: u64,
-    s: u64,
-    table: u64,
-    args: [SignalId; 3],
-) -> Result<u64, AllocError>
-    requires survey { IsSurvey (length registers.now) survey.now }
-    requires signal { s < length registers.now }
-    requires args { All (λ a. a < length registers.now) args }
-    ensures { IfOk result (λ w. ComputesAt survey.now registers.now own s code.old.items code.new.items (write_of table args) w) }
-{
-    let signals = stood_three(&survey.stands, args);
-    let found = operands(
-        code,
-        &survey.kinds,
-        registers,
-        &survey.owners,
-        own,
-        &signals,
-    )?;
-    let cells = survey.cells[s as usize].unwrap_or(0);
-    push(
-        code,
-        Step::Write {
-            cells,
-            args: [found[0], found[1], found[2]],
-        },
-    )
-}
+    // An item of a table.
+    fn read(&self, code: &mut Vec<Step>, table: u64, r: SignalId) -> Result<u64, AllocError>
+        requires survey { IsSurvey (length self.now.registers.now) self.now.survey.now }
+        requires r { r < length self.now.registers.now }
+        ensures { IfOk result (λ w. ComputesNow self.now.survey.now self.now.registers.now self.now.own code.old.items code.new.items (signal.Read table r) w) }
+    {
+        let arg = self.operand_of(code, r)?;
+        push(code, Step::Read { table, arg })
+    }
 
-// An operation, a delay or a table.
-fn computed(
-    code: &mut Vec<Step>,
-    survey: &Survey,
-    registers: &[u64],
-    own: u64,
-    s: u64,
-    node: Signal,
-) -> Result<u64, AllocError>
-    requires survey { IsSurvey (length registers.now) survey.now }
-    requires operands { OperandsWithin (length registers.now) node }
-    requires signal { s < length registers.now }
-    ensures { IfOk result (λ w. ComputesAt survey.now registers.now own s code.old.items code.new.items node w) }
-{
-    match node {
-        Signal::Point { op, args } => point(code, survey, registers, own, op, args),
-        Signal::Delay { x, d, max } => {
-            if max == 0 {
-                still(code, survey, registers, own, x, d)
-            } else {
-                delayed(code, survey, registers, own, x, d, max)
+    // A table that is written and then read, which is signal s. Its operands are where and what is written, and where it is read.
+    fn written(
+        &self,
+        code: &mut Vec<Step>,
+        s: u64,
+        table: u64,
+        args: [SignalId; 3],
+    ) -> Result<u64, AllocError>
+        requires survey { IsSurvey (length self.now.registers.now) self.now.survey.now }
+        requires signal { s < length self.now.registers.now }
+        requires args { All (λ a. a < length self.now.registers.now) args }
+        ensures { IfOk result (λ w. ComputesAt self.now.survey.now self.now.registers.now self.now.own s code.old.items code.new.items (write_of table args) w) }
+    {
+        let signals = stood_three(&self.survey.stands, args);
+        let found = operands(
+            code,
+            &self.survey.kinds,
+            self.registers,
+            &self.survey.owners,
+            self.own,
+            &signals,
+        )?;
+        let cells = self.survey.cells[s as usize].unwrap_or(0);
+        push(
+            code,
+            Step::Write {
+                cells,
+                args: [found[0], found[1], found[2]],
+            },
+        )
+    }
+
+    // An operation, a delay or a table.
+    fn computed(&self, code: &mut Vec<Step>, s: u64, node: Signal) -> Result<u64, AllocError>
+        requires survey { IsSurvey (length self.now.registers.now) self.now.survey.now }
+        requires operands { OperandsWithin (length self.now.registers.now) node }
+        requires signal { s < length self.now.registers.now }
+        ensures { IfOk result (λ w. ComputesAt self.now.survey.now self.now.registers.now self.now.own s code.old.items code.new.items node w) }
+    {
+        match node {
+            Signal::Point { op, args } => self.point(code, op, args),
+            Signal::Delay { x, d, max } => {
+                if max == 0 {
+                    self.still(code, x, d)
+                } else {
+                    self.delayed(code, x, d, max)
+                }
             }
-        }
-        Signal::Input(_) => Ok(0),
-        Signal::Const(_) => Ok(0),
-        Signal::Control(_) => Ok(0),
-        Signal::Back { group: _, i: _ } => Ok(0),
-        Signal::Member { group: _, i: _ } => Ok(0),
-        Signal::Read { table, r } => read(code, survey, registers, own, table, r),
-        Signal::Write { table, w, x, r } => {
-            written(code, survey, registers, own, s, table, [w, x, r])
+            Signal::Input(_) => Ok(0),
+            Signal::Const(_) => Ok(0),
+            Signal::Control(_) => Ok(0),
+            Signal::Back { group: _, i: _ } => Ok(0),
+            Signal::Member { group: _, i: _ } => Ok(0),
+            Signal::Read { table, r } => self.read(code, table, r),
+            Signal::Write { table, w, x, r } => { self.written(code, s, table, [w, x, r]) }
         }
     }
-}
 
-// A signal's own step.
-fn own_step(
-    code: &mut Vec<Step>,
-    survey: &Survey,
-    registers: &[u64],
-    own: u64,
-    s: u64,
-    node: Signal,
-) -> Result<u64, AllocError>
-    requires survey { IsSurvey (length registers.now) survey.now }
-    requires operands { OperandsWithin (length registers.now) node }
-    requires signal { s < length registers.now }
-    ensures { IfOk result (λ w. OwnNow survey.now registers.now own s code.old.items code.new.items node w) }
-{
-    let base = survey.bases[s as usize];
-    match base {
-        Kind::Inner => computed(code, survey, registers, own, s, node),
-        _ => operand(code, base, registers, &survey.owners, own, s),
+    // A signal's own step.
+    fn own_step(&self, code: &mut Vec<Step>, s: u64, node: Signal) -> Result<u64, AllocError>
+        requires survey { IsSurvey (length self.now.registers.now) self.now.survey.now }
+        requires operands { OperandsWithin (length self.now.registers.now) node }
+        requires signal { s < length self.now.registers.now }
+        ensures { IfOk result (λ w. OwnNow self.now.survey.now self.now.registers.now self.now.own s code.old.items code.new.items node w) }
+    {
+        let base = self.survey.bases[s as usize];
+        match base {
+            Kind::Inner => self.computed(code, s, node),
+            _ => operand(code, base, self.registers, &self.survey.owners, self.own, s),
+        }
     }
 }
 
@@ -291,7 +257,12 @@ fn add(
     requires signal { s < length registers.old.items }
     ensures { OnOk result (AddsNow survey.now own s node registers.old.items code.old.items registers.new.items code.new.items) }
 {
-    let register = own_step(code, survey, registers, own, s, node)?;
+    let emitter = Emitter {
+        survey,
+        registers,
+        own,
+    };
+    let register = emitter.own_step(code, s, node)?;
     registers[s as usize] = register;
     append(code, survey.lanes[s as usize], register)
 }
