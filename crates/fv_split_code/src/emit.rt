@@ -83,7 +83,8 @@ impl Emitter<'_> {
     fn point(&self, code: &mut Vec<Step>, op: Op, args: [SignalId; 4]) -> Result<u64, AllocError>
         requires survey { IsSurvey (length self.now.registers.now) self.now.survey.now }
         requires args { All (λ a. a < length self.now.registers.now) args }
-        ensures { IfOk result (λ w. ComputesNow self.now.survey.now self.now.registers.now self.now.own code.old.items code.new.items (signal.Point op args) w) }
+        ensures { IfOk result (λ w.
+            ComputesNow self.now.survey.now self.now.registers.now self.now.own code.old.items code.new.items (signal.Point op args) w) }
     {
         let signals = stood(&self.survey.stands, args);
         let n = op.inputs() as usize;
@@ -126,7 +127,8 @@ impl Emitter<'_> {
         requires x { x < length self.now.registers.now }
         requires d { d < length self.now.registers.now }
         requires max { 1 ≤ max }
-        ensures { IfOk result (λ w. ComputesNow self.now.survey.now self.now.registers.now self.now.own code.old.items code.new.items (signal.Delay x d max) w) }
+        ensures { IfOk result (λ w.
+            ComputesNow self.now.survey.now self.now.registers.now self.now.own code.old.items code.new.items (signal.Delay x d max) w) }
     {
         let back = self.operand_of(code, d)?;
         let source = stand(&self.survey.stands, x);
@@ -162,7 +164,8 @@ impl Emitter<'_> {
         requires survey { IsSurvey (length self.now.registers.now) self.now.survey.now }
         requires signal { s < length self.now.registers.now }
         requires args { All (λ a. a < length self.now.registers.now) args }
-        ensures { IfOk result (λ w. ComputesAt self.now.survey.now self.now.registers.now self.now.own s code.old.items code.new.items (write_of table args) w) }
+        ensures { IfOk result (λ w.
+            ComputesAt self.now.survey.now self.now.registers.now self.now.own s code.old.items code.new.items (write_of table args) w) }
     {
         let signals = stood_three(&self.survey.stands, args);
         let found = operands(
