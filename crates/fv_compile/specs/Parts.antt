@@ -65,7 +65,7 @@ pub record Answered : Type 0 where
   pub wide : All (λ x. length x ≡ inputs_of parts) frames
   pub within : number < length parts
 
--- its diagram, its columns and its controls; its output j
+-- the part that is looked at, with its diagram; below stand its columns, its controls and its output j
 abbrev pub own : Answered → Part → Part
 own a d = slice_index_or a.parts a.number d
 

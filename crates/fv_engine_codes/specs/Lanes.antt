@@ -20,7 +20,7 @@ use Rattle.fv_engine_codes.specs.declared.loop_lanes.LoopLanes.{LoopLanes}
 abbrev pub lane_open : LaneWriter → Lane
 lane_open w = record { history = (shape_of w).history; items = list_of w; room = frames_of w - written_by w }
 
--- its own lanes, and then the seen ones
+-- the lanes of a loop: its own, and then the seen ones
 abbrev pub lanes_in : LoopLanes → List Lane
 lanes_in s = map lane_open s.own.items ++ map lane_seen s.seen.items
 
@@ -28,7 +28,7 @@ lanes_in s = map lane_open s.own.items ++ map lane_seen s.seen.items
 abbrev pub state_in : LoopLanes → State
 state_in s = record { lanes = lanes_in s; tables = s.cells.plan.now.tables; cells = cells_of s.cells }
 
--- its cells have places
+-- the cells of a loop have places
 abbrev pub AreLanesValid : LoopLanes → Type 0
 AreLanesValid s = AreCellsPlaced s.cells
 

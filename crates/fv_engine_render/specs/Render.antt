@@ -39,7 +39,7 @@ pub record CanHave (s : RunSizes) : Type 0 where
   pub one : 1 ≤ s.workers
   pub workers : s.workers ≤ MOST_WORKERS
 
--- those of all its frames
+-- the blocks of all frames of a diagram's run ran
 abbrev pub RanWhole : Diagram → List ControlInfo → List Change → RunSizes → Ran → (old new : Option Told) → Type 0
 RanWhole d cs changes s r old new = RanTo d cs changes s s.frames r old new
 

@@ -145,7 +145,7 @@ fn play_fives<R: Threads + Wait + Sync>(
     (first, second, third)
 }
 
-// The same by an engine of this graph.
+// Three blocks of fives under a control that changes, by an engine of this graph.
 fn play_changes<R: Abort + Threads + Wait + Sync>(
     rt: &R,
     alloc: Global,

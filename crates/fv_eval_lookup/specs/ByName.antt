@@ -34,7 +34,7 @@ pub record AreDefined (p : Parsed) (list : ℕ) (ds : List Defined) : Type 0 whe
       ≡ filter (is_of p.tokens (text_of p.tokens n)) (items (tree_in p list))
   pub there : All (λ (d : Defined). d.node < size_of p) ds
 
--- those of each node of a tree
+-- the sorted definitions of each node of a tree
 pub record AreIndexed (p : Parsed) (lists : List (List Defined)) : Type 0 where
   pub whole : length lists ≡ size_of p
   pub each : (i : ℕ) (d : List Defined) → i < length lists → AreDefined p i (slice_index_or lists i d)

@@ -56,7 +56,7 @@ matched_on l (pd ∷ more) bs = and_then (matched l pd.0 (Flat pd.1) bs) (matche
 abbrev pub pair_of : Parsed → Arena → Pair → Tree × Diagram
 pair_of p a x = (tree_in p x.pattern, tree_of a x.diagram)
 
--- those of a stack, the last one first
+-- the patterns and diagrams of a stack of pairs, the last one first
 abbrev pub waiting : Parsed → Arena → List Pair → List (Tree × Diagram)
 waiting p a pending = map (pair_of p a) (reverse pending)
 

@@ -53,7 +53,7 @@ parameters_in l (tree.Abstraction s ns x) = map (text_of l) ns
 parameters_in l (tree.Function s n ps x) = given_names (names_of l (items ps))
 parameters_in l x = []
 
--- its body
+-- the body of an abstraction or a definition
 abbrev pub body_in : Tree → Tree
 body_in (tree.Abstraction s ns x) = x
 body_in (tree.Function s n ps x) = x

@@ -87,7 +87,7 @@ fn matching(alloc: Global, tree: &Tree, n: i32) -> Result<String, AllocError> {
     Ok(line)
 }
 
-// The same of the nodes of a text.
+// The nodes of a text that match an integer, with how many names they bind.
 fn matching_in(alloc: Global, text: &str, n: i32) -> Result<String, AllocError> {
     let Ok(found) = tokens(alloc, text.as_bytes()) else {
         return String::from_str(alloc, "no tokens");

@@ -58,7 +58,7 @@ fn choices(alloc: Global, tree: &Tree, n: i32) -> Result<String, AllocError> {
     Ok(line)
 }
 
-// The same of the nodes of a text.
+// Each node of a text whose rules take arguments, how many, and what they choose for an integer.
 fn choices_in(alloc: Global, text: &str, n: i32) -> Result<String, AllocError> {
     let Ok(found) = tokens(alloc, text.as_bytes()) else {
         return String::from_str(alloc, "no tokens");

@@ -56,7 +56,7 @@ pub record Files : Type 0 where
 abbrev pub files_of : FileTape → Files
 files_of t = record { output = t.output.now; head = t.head; input = t.input; held = option_map (λ v. v.items) t.held; stated = t.stated }
 
--- its numbers fit together: there is room for the bytes of the most frames each way
+-- the numbers of a tape fit together: there is room for the bytes of the most frames each way
 pub record IsTape (t : FileTape) : Type 0 where
   pub input : ForSome t.input IsInput
   pub stated : ForSome t.input (λ i. t.stated ≡ stated_frames (layout_of i))

@@ -3,7 +3,7 @@ use Rattle.std.specs.Prelude.{List, ◌++◌, ℤ}
 use Rattle.fv_loopcode.specs.headline.Lanes.{Lane}
 use Rattle.fv_lines.specs.declared.seen.Seen.{Seen}
 
--- its samples, the history first
+-- the samples of a seen lane, the history first
 abbrev pub samples_of : Seen → List ℤ
 samples_of s = s.older.now ++ s.newer.now
 

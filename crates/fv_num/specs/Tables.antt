@@ -15,7 +15,7 @@ pub record IsLastWrite (w : Stream) (n i t u : ℕ) : Type 0 where
 abbrev pub GivesTheLast : Type 0
 GivesTheLast = (T : List ℤ) (w x : Stream) (i t u : ℕ) → IsLastWrite w (length T) i t u → last_written T w x i t ≡ x u
 
--- And the list's own number, where it was not written.
+-- A place that was not written has the list's own number.
 abbrev pub KeepsTheRest : Type 0
 KeepsTheRest = (T : List ℤ) (w x : Stream) (i t : ℕ) → ((u : ℕ) → u ≤ t → place (length T) (w u) ≢ i)
     → last_written T w x i t ≡ argument T i

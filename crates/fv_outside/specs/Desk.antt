@@ -24,7 +24,7 @@ pub record CountsCall (role : Role) (old new : DeskState) : Type 0 where
   pub other_calls : IsTrue old.tells → (r : Role) → r ≢ role → new.calls r ≡ old.calls r
   pub other_faults : (r : Role) → r ≢ role → new.faults r ≡ old.faults r
 
--- none of any role but one was
+-- no fault of any role but one was counted
 abbrev pub KeepsFaultsBut : Role → (old new : DeskState) → Type 0
 KeepsFaultsBut role old new = (r : Role) → r ≢ role → new.faults r ≡ old.faults r
 
@@ -32,7 +32,7 @@ KeepsFaultsBut role old new = (r : Role) → r ≢ role → new.faults r ≡ old
 abbrev pub KeepsLeft : (old new : DeskState) → Type 0
 KeepsLeft old new = IsTrue old.tells → (r : Role) → new.left r ≡ old.left r
 
--- those of every role but one are
+-- the bytes left to read of every role but one are the same, where they are told
 abbrev pub KeepsLeftBut : Role → (old new : DeskState) → Type 0
 KeepsLeftBut role old new = IsTrue old.tells → (r : Role) → r ≢ role → new.left r ≡ old.left r
 
@@ -40,7 +40,7 @@ KeepsLeftBut role old new = IsTrue old.tells → (r : Role) → r ≢ role → n
 abbrev pub KeepsWritten : (old new : DeskState) → Type 0
 KeepsWritten old new = IsTrue old.tells → (r : Role) → new.written r ≡ old.written r
 
--- those of every role but one are
+-- the bytes written of every role but one are the same, where they are told
 abbrev pub KeepsWrittenBut : Role → (old new : DeskState) → Type 0
 KeepsWrittenBut role old new = IsTrue old.tells → (r : Role) → r ≢ role → new.written r ≡ old.written r
 

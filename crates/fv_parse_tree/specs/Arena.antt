@@ -107,7 +107,7 @@ abbrev pub lean : List Tree → List Pending → Tree → Tree
 lean trees [] y = y
 lean trees (p ∷ ps) y = Binary p.start p.op (tree_at trees p.left) (lean trees ps y)
 
--- their left parts are there
+-- the left parts of pending parts are there
 abbrev pub AreInside : List Tree → List Pending → Type 0
 AreInside trees ps = All (λ (p : Pending). p.left < length trees) ps
 

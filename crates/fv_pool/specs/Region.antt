@@ -7,7 +7,7 @@ use Rattle.fv_pool.specs.declared.region.Region.{Region}
 use Rattle.fv_pool.specs.declared.part.Cutter.{Cutter}
 use Rattle.fv_pool.specs.contracts.region.Region.{the_row}
 
--- its cells, in order
+-- the cells of a region, in order
 abbrev pub cells_of : Region → List ℤ
 cells_of r = r.cells.items
 

@@ -42,7 +42,7 @@ IsKnown r known (kind.Input i) s = Unit {0}
 IsKnown r known (kind.Back l) s = Unit {0}
 IsKnown r known kind.Inner s = known s ≡ true
 
--- its lane may be loaded, where it is
+-- the lane of a signal may be loaded, where its kind is to be loaded
 abbrev pub IsLoaded : Roles → Kind → Type 0
 IsLoaded r (kind.Number n) = Unit {0}
 IsLoaded r (kind.Held k) = Unit {0}

@@ -20,11 +20,11 @@ three_samples =
     82 ∷ 73 ∷ 70 ∷ 70 ∷ 42 ∷ 0 ∷ 0 ∷ 0 ∷ 87 ∷ 65 ∷ 86 ∷ 69 ∷ 102 ∷ 109 ∷ 116 ∷ 32 ∷ 16 ∷ 0 ∷ 0 ∷ 0 ∷ 1 ∷ 0 ∷ 1 ∷ 0 ∷ 68 ∷ 172 ∷ 0 ∷ 0 ∷ 136 ∷ 88 ∷ 1 ∷ 0
     ∷ 2 ∷ 0 ∷ 16 ∷ 0 ∷ 100 ∷ 97 ∷ 116 ∷ 97 ∷ 6 ∷ 0 ∷ 0 ∷ 0 ∷ 1 ∷ 0 ∷ 254 ∷ 255 ∷ 3 ∷ 0 ∷ []
 
--- its head
+-- the head of the file of three samples
 head : Incoming
 head = record { coding = coding.Wave; channels = 1; rate = 44100; bits = 16; data_bytes = 6; is_open = false; place = 44 }
 
--- its format as an output
+-- the format of the file of three samples as an output
 format : OutputFormat
 format = record { coding = coding.Wave; rate = 44100; bits = 16; frames = 3 }
 
@@ -59,7 +59,7 @@ au_samples : List ℕ
 au_samples =
     46 ∷ 115 ∷ 110 ∷ 100 ∷ 0 ∷ 0 ∷ 0 ∷ 24 ∷ 0 ∷ 0 ∷ 0 ∷ 6 ∷ 0 ∷ 0 ∷ 0 ∷ 3 ∷ 0 ∷ 0 ∷ 172 ∷ 68 ∷ 0 ∷ 0 ∷ 0 ∷ 1 ∷ 0 ∷ 1 ∷ 255 ∷ 254 ∷ 0 ∷ 3 ∷ []
 
--- its head
+-- the head of the AU file
 au_head : Incoming
 au_head = record { coding = coding.Au; channels = 1; rate = 44100; bits = 16; data_bytes = 6; is_open = false; place = 24 }
 

@@ -40,7 +40,7 @@ is_closed bound d = true
 abbrev pub is_fixed : Diagram → Bool
 is_fixed d = nat_eq (inputs d) 0 && is_closed [] d
 
--- these parts give a table's size and its numbers
+-- whether parts give a table's size and its numbers, and nothing else
 abbrev pub is_head : List Diagram → Bool
 is_head ds = nat_eq (all_outputs ds) 2 && list_all is_fixed ds
 

@@ -6,7 +6,7 @@ use Rattle.fv_diagram.specs.Primitive.TheVariants.{Mem, Prefix, Delay, ReadTable
 use Rattle.fv_diagram.specs.headline.Diagram.{Diagram, Primitive, Constant, Par, Seq, Split, Merge, inputs, outputs}
 use Rattle.fv_diagram.specs.headline.Streams.{Stream, run, last}
 
--- its value at a time depends on its inputs at that time alone
+-- a primitive whose value at a time depends on its inputs at that time alone
 abbrev pub is_pointwise : Prim → Bool
 is_pointwise Mem = false
 is_pointwise Prefix = false

@@ -25,7 +25,7 @@ opening_over tables lengths shapes states frames cells lists = record {
   cells = lists_of lists;
 }
 
--- those of an engine's lanes
+-- the places as a block begins, of an engine's lanes and cells
 abbrev pub opening_of : (tables : List (List ℤ)) → Lanes → (frames : ℕ) → State
 opening_of tables l frames = opening_over tables l.layout l.shapes.items l.states.items frames (cells_of l.region) l.lists.items
 

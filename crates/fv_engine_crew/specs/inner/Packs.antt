@@ -12,7 +12,7 @@ use Rattle.fv_engine_crew.specs.declared.lent.Pack.{Pack}
 use Rattle.fv_engine_crew.specs.Ran.{Ran}
 use Rattle.fv_engine_crew.specs.Spread.{block_in, tasks_of, IsSpread, MayRunOver, opening_of, HoldAsBefore}
 
--- its block, and the shapes of its lanes
+-- the block that a crew is handed
 abbrev pub block_with : Pack → SpreadBlock
 block_with p = p.block.now
 

@@ -13,7 +13,7 @@ use Rattle.fv_engine_render.specs.Stops.{IsAct}
 use Rattle.fv_engine_render.specs.declared.blocks.RunSizes.{RunSizes}
 use Rattle.fv_engine_render.specs.declared.blocks.Ran.{Ran}
 
--- Its blocks up to some frame ran, and were told; this was heard, and that is what the engine answers.
+-- An engine's blocks up to some frame ran, and were told. These samples were heard, and the engine answers those that were said.
 pub record HasStopped (e : EngineView) (s : RunSizes) (changes : List Change) (initial : List ℤ) (old new : Option Told)
     (Stopped : (heard said : List ℤ) → Act → Type 0) : Type 0 where
   pub frame : ℕ

@@ -83,7 +83,7 @@ abbrev pub IsSlider : Tree → Type 0
 IsSlider (tree.Slider s k n x0 x1 x2 x3) = Unit {0}
 IsSlider x = ⊥
 
--- ---- what waits for a value is that
+-- ---- a continuation of the code shows one of the machine
 
 -- an application, whose first arguments are done
 pub record ShowsArgument (w : World) (apply : ℕ)

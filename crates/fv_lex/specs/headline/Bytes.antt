@@ -84,7 +84,7 @@ is_name_byte b = is_letter b || (is_digit b || is_underscore b)
 abbrev pub is_quote : ℕ → Bool
 is_quote b = nat_eq b quote
 
--- it ends no line (this project's profile)
+-- a byte that ends no line (this project's profile)
 abbrev pub is_in_line : ℕ → Bool
 is_in_line b = not (nat_eq b line_feed)
 

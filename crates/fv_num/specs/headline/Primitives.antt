@@ -19,7 +19,7 @@ abbrev pub primitive_outputs : Primitive → ℕ
 primitive_outputs Cut = 0
 primitive_outputs _ = 1
 
--- it is `rdtable` or `rwtable`, which become tables where they are put after the numbers of one
+-- the primitive is `rdtable` or `rwtable`, which become tables where they are put after the numbers of one
 abbrev pub is_table_primitive : Primitive → Bool
 is_table_primitive ReadTable = true
 is_table_primitive WriteTable = true

@@ -54,7 +54,7 @@ rule_of (tree.Rule s ps x) = record { patterns = items ps; body = x }
 rule_of (tree.Function s n ps x) = record { patterns = items ps; body = x }
 rule_of x = record { patterns = []; body = x }
 
--- it is a definition of this name
+-- a tree is a definition of this name
 abbrev pub is_of : Lexed → Name → Tree → Bool
 is_of l name (tree.Constant s n x) = bytes_eq (text_of l n) name
 is_of l name (tree.Function s n ps x) = bytes_eq (text_of l n) name

@@ -47,7 +47,7 @@ pub record CellsStand (g : Graph) (p : PlanView) (names : Names) : Type 0 where
   pub all : (s table w x r : ℕ) → StandsAt g s (signal.Write table w x r) → (k : ℕ) × (k < length p.cells) × (names.cells k ≡ s)
   pub owners : (k l : ℕ) → k < length p.cells → l < length p.lanes → names.lane l ≡ names.cells k → (cells_info p k).owner ≡ (lane_info p l).owner
 
--- these tables, and no lanes and cells
+-- the state with these tables, and no lanes and no cells
 abbrev pub tables_alone : List (List ℤ) → State
 tables_alone tables = record { lanes = []; tables = tables; cells = [] }
 

@@ -79,7 +79,7 @@ IsWhole p = cut_in p.format p.source ≡ None
 
 -- ---- what is asked for
 
--- this is the program of this many voices
+-- a program is that of this many voices
 abbrev pub IsMade : (voices : ℕ) → Compiled → Type 0
 IsMade voices p = TextIs (text_of voices) (Ok p)
 

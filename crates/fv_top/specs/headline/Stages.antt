@@ -32,7 +32,7 @@ pub record Rules (S : Type 0) : Type 1 where
   pub Answers : S → Turn → Type 0
   -- the refusals that a stage has
   pub Has : S → Refusal → Type 0
-  -- it takes memory
+  -- the stage takes memory
   pub Wants : S → Type 0
   -- what the stage judges passes, or is refused for this
   pub Passes : S → Type 0

@@ -122,11 +122,11 @@ frames_there p left = frames_of (files_of p.tape) left
 abbrev pub file_on : Compiled → Prepared → (X : List Frame) → List ℕ
 file_on c p X = output_file c.diagram (control_streams p.script (initial_of c.controls)) (format_in p.format) X
 
--- that of all of them
+-- the output file of all frames that are there
 abbrev pub file_there : Compiled → Prepared → (left : List ℕ) → List ℕ
 file_there c p left = file_on c p (frames_there p left)
 
--- that of those up to frame g
+-- the output file of the frames that are there up to frame g
 abbrev pub file_to : Compiled → Prepared → (g : ℕ) → (left : List ℕ) → List ℕ
 file_to c p g left = file_on c p (take g (frames_there p left))
 

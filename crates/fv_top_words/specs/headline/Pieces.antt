@@ -8,7 +8,7 @@ pub data Piece : Type 0 where
   Plain : (word : List ℕ) → Piece
   Given : (name value : List ℕ) → Piece
 
--- it begins with a dash, and is more than that
+-- a word begins with a dash, and is more than that
 abbrev pub is_dashed : List ℕ → Bool
 is_dashed [] = false
 is_dashed (b ∷ []) = false
@@ -18,7 +18,7 @@ is_dashed (b ∷ c ∷ w) = b == 45
 abbrev pub is_equals : ℕ → Bool
 is_equals b = b == 61
 
--- one of its bytes is `=`
+-- one of a word's bytes is `=`
 abbrev pub has_equals : List ℕ → Bool
 has_equals w = nat_lt (position_or_len is_equals w) (length w)
 
