@@ -59,7 +59,7 @@ fn tell_all(graph: &Graph, stands: &[SignalId], delays: &mut Vec<u32>, backs: &m
     }
 }
 
-// One signal more.
+// Notes what one signal more reads.
 fn tell(
     graph: &Graph,
     stands: &[SignalId],
@@ -96,7 +96,7 @@ fn tell(
     }
 }
 
-// A delay of what a signal stands for, at most so long.
+// Notes a delay of what a signal stands for, by at most `max` samples.
 fn tell_delay(stands: &[SignalId], delays: &mut Vec<u32>, x: SignalId, most: u32)
     requires there { x < length stands.now }
     requires within { All (λ r. r < length delays.old.items) stands.now }
@@ -106,7 +106,7 @@ fn tell_delay(stands: &[SignalId], delays: &mut Vec<u32>, x: SignalId, most: u32
     delays[place] = delays[place].max(most);
 }
 
-// A Back names what a signal stands for.
+// Notes that a Back names what a signal stands for.
 fn tell_back(stands: &[SignalId], backs: &mut Vec<bool>, x: SignalId)
     requires there { x < length stands.now }
     requires within { All (λ r. r < length backs.old.items) stands.now }

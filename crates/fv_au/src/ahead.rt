@@ -30,7 +30,7 @@ impl<'a, D: Desk> Ahead<'a, D> {
         }
     }
 
-    /// The next four bytes of the input, which stay left, or nothing where fewer are left.
+    /// Looks at the next four bytes of the input, which stay left; `None` where fewer are left.
     pub fn peek(&mut self) -> Result<Option<[u8; 4]>, Failed>
         ensures left { Takes Input [] (ahead_state D.state self.old) (ahead_state D.state self.new) }
         ensures some { IfOk result (λ front. IfSome front (λ bytes. IsTrue (ahead_state D.state self.old).tells →

@@ -46,7 +46,7 @@ fn pass<D: Desk>(desk: &mut D, place: u64, count: u64) -> Result<(), AuRefusal>
     Ok(())
 }
 
-// What the first 24 bytes say, which begin with these.
+// Reads the first 24 bytes, which begin with these, and returns what they say.
 fn read_front<D: Desk>(desk: &mut D, begun: &[u8]) -> Result<AuHead, AuRefusal>
     requires { length begun.now ≤ 24 }
     ensures ok { IfOk result (λ head. Passes (24 - length begun.now) ((head_of (begun.now ++ (D.state desk.old).left Input) ≡ Ok head)
@@ -61,7 +61,7 @@ fn read_front<D: Desk>(desk: &mut D, begun: &[u8]) -> Result<AuHead, AuRefusal>
     judge(&front[..start + n])
 }
 
-/// The head of the AU file whose bytes are left of the input. After the call its samples are left next.
+/// Reads the head of the AU file whose bytes are left of the input. After the call its samples are left next.
 pub fn read_au_head<D: Desk>(desk: &mut D) -> Result<AuHead, AuRefusal>
     requires begins { IsTrue (D.state desk.old).tells → IsAu ((D.state desk.old).left Input) }
     ensures head { IfOk result (λ head. IsTrue (D.state desk.old).tells → au ((D.state desk.old).left Input) ≡ Ok head) }
@@ -73,8 +73,8 @@ pub fn read_au_head<D: Desk>(desk: &mut D) -> Result<AuHead, AuRefusal>
     read_au_head_behind(desk, &[])
 }
 
-/// The head of the AU file that begins with the bytes `begun`, which were taken already. It goes on with what is left of the input;
-/// after the call its samples are left next.
+/// Reads the head of the AU file that begins with the bytes `begun`, which were taken already. It goes on with what is left of the
+/// input; after the call its samples are left next.
 pub fn read_au_head_behind<D: Desk>(desk: &mut D, begun: &[u8]) -> Result<AuHead, AuRefusal>
     requires few { length begun.now ≤ 24 }
     requires begins { IsTrue (D.state desk.old).tells → IsAu (begun.now ++ (D.state desk.old).left Input) }

@@ -21,7 +21,7 @@ use std::alloc::{AllocError, Global};
 /// The place of a head's size.
 const SIZE_PLACE: u64 = 8;
 
-/// The bytes that are left of the input, up to the file's end, if a head can state their number.
+/// Reads the bytes that are left of the input, up to the file's end, if a head can state their number.
 pub fn read_au_bytes<D: Desk>(alloc: Global, desk: &mut D) -> Result<Vec<u8>, AuRefusal>
     ensures ok { IfOk result (λ v. Passes (length v.items) ((v.items ≡ (D.state desk.old).left Input) × ((D.state desk.new).left Input ≡ []))
         (D.state desk.old) (D.state desk.new)) }
@@ -36,7 +36,7 @@ pub fn read_au_bytes<D: Desk>(alloc: Global, desk: &mut D) -> Result<Vec<u8>, Au
     Ok(bytes)
 }
 
-/// The samples of the whole frames that are left of the input, up to the file's end.
+/// Reads the samples of the whole frames that are left of the input, up to the file's end.
 pub fn read_au_rest<D: Desk>(
     alloc: Global,
     desk: &mut D,

@@ -56,7 +56,7 @@ pub(crate) fn append(
     images_of(alloc, outputs, &images)
 }
 
-// The images of all signals, put one after another.
+// Puts the images of all signals, one after another.
 fn images(
     alloc: Global,
     builder: &mut Builder,
@@ -78,7 +78,7 @@ fn images(
     Ok(images)
 }
 
-// The image of the first signal that has none yet. A member's is that of its definition.
+// Puts the image of the first signal that has none yet. A member's is that of its definition.
 fn image(
     builder: &mut Builder,
     graph: &Graph,

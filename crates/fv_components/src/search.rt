@@ -82,7 +82,7 @@ impl Search {
         self.classes.truncate(kept);
     }
 
-    // The last class is done.
+    // Ends the last class: its nodes are a component.
     fn close(&mut self)
         requires some { 0 < length self.old.classes.items }
         requires first { (class (state_of self.old) (length self.old.classes.items - 1)).first ≤ length self.old.path.items }

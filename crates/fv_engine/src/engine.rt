@@ -126,8 +126,8 @@ impl Engine {
         })
     }
 
-    /// The next frames of the output, for the next frames of the input and the controls in them. Several workers run the block where
-    /// memory for it is there, and else one does; the output is the same.
+    /// Plays the next frames of the input under the controls in them, and writes the frames of the output. Several workers run the
+    /// block where memory for it is there, and else one does; the output is the same.
     pub fn run_block<R: Threads + Wait + Sync, G: Gate + Sync>(
         &mut self,
         rt: &R,

@@ -49,7 +49,7 @@ impl Store for OneSample<'_> {
     }
 }
 
-/// The held values that these controls give.
+/// Computes the held values under these controls.
 pub(crate) fn hold(plan: &Plan, controls: &[i32], held: &mut [i32])
     requires long { length held.old ≡ length plan.now.held }
     requires code { IsHeldCode plan.now.held }

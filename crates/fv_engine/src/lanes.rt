@@ -77,7 +77,8 @@ impl Lanes {
         false
     }
 
-    // By several workers. Where it is false no task ran, and each lane has the history that it had, and each cells its items.
+    // Runs a block by several workers. Where it is false no task ran, each lane has the history that it had, and each cells its
+    // items.
     fn run_spread<R: Threads + Wait + Sync, G: Gate + Sync>(
         &mut self,
         rt: &R,
@@ -134,7 +135,7 @@ impl Lanes {
         )
     }
 
-    // By one worker.
+    // Runs a block by one worker.
     fn run_alone<P: Codes, G: Gate>(
         &mut self,
         job: &Job<'_, '_, '_, P>,

@@ -43,7 +43,7 @@ fn number(lanes: &[u64], from: u64, places: &mut [u64]) -> u64
     from + lanes.len() as u64
 }
 
-/// The lanes that a loop sees get their new numbers. Returns how many these lanes are.
+/// Numbers the lanes that a loop sees. Returns how many they are.
 pub(crate) fn number_lanes(
     plan: &Plan,
     tasks: &Tasks,

@@ -74,7 +74,7 @@ impl<'a, 'b> LoopBody<'a, 'b> {
         &self.codes[loop_no as usize]
     }
 
-    // The code of a task.
+    // Runs the code of a task.
     fn run_code(&self, task: Task, writers: &mut Writers<'a, 'b>)
         requires there { task.loop_no < length self.now.codes.now }
         requires inside { task.vector * self.now.start.vector < self.now.start.frames }
@@ -110,7 +110,7 @@ impl<'a, 'b> LoopBody<'a, 'b> {
         );
     }
 
-    // The lanes of all these parcels, one after another.
+    // Appends the lanes of all these parcels, one after another.
     fn gather(&self, vector: u32, parcels: &[LoopParcel<'a, 'b>], seen: &mut Vec<Seen<'a>>)
         requires keys { All (λ p. p.start.value ≡ self.now.start) parcels.now }
         requires pairs { All (λ p. IsPairAt (tasks_in self.now.start) vector p.edge) parcels.now }
@@ -127,7 +127,7 @@ impl<'a, 'b> LoopBody<'a, 'b> {
         }
     }
 
-    // The parcels out of a task, from the last edge on, so that the lanes' writers stand last.
+    // Makes the parcels out of a task, from the last edge on, so that the lanes' writers stand last.
     fn hand(
         &self,
         task: Task,

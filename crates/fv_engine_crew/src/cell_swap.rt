@@ -10,7 +10,7 @@ use fv_engine_codes::CellPlaces;
 use fv_split_plan::Plan;
 use std::mem::swap;
 
-// A list changes places with the one that stands there in a loop's writers.
+// Exchanges a list with the one that stands at its place in a loop's writers.
 fn swap_one<'a, 'b>(one: &mut Writers<'a, 'b>, at: u64, list: &mut Vec<i32>)
     requires { at < length one.old.lanes.cells.lists.items }
     ensures list { list.new ≡ slice_index_or one.old.lanes.cells.lists.items at list.old }
@@ -20,8 +20,8 @@ fn swap_one<'a, 'b>(one: &mut Writers<'a, 'b>, at: u64, list: &mut Vec<i32>)
     swap(&mut one.lanes.cells.lists[at as usize], list);
 }
 
-/// The list of each cells changes places with the one that stands at its place in its loop's writers: so lists go to their loops, and come
-/// back.
+/// Exchanges the list of each cells with the one that stands at its place in its loop's writers. So lists go to their loops, and
+/// come back.
 pub fn swap_cells<'a, 'b>(
     plan: &Plan,
     places: &CellPlaces,

@@ -22,7 +22,8 @@ use std::marker::Sync;
 use std::sync::Wait;
 use std::thread::Threads;
 
-/// The writers of all lanes as the crew leaves them: written whole, or as they were where memory is refused. So it is with the lists.
+/// Runs all tasks by a crew. Returns the writers of all lanes: written whole, or as they were where memory is refused. So it is
+/// with the lists.
 pub(crate) fn run_begun<'a, 'b, R: Threads + Wait + Sync, G: Gate + Sync>(
     rt: &R,
     alloc: Global,

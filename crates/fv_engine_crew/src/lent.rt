@@ -39,7 +39,7 @@ pub(crate) struct Pack<'p, 'b, 's, 'l, 'o> {
     pub(crate) ran: bool,
 }
 
-// The block over cells that are not yet cut, where there are lists for it to work in.
+// Runs the block over cells that are not yet cut, where there are lists for it to work in.
 fn use_buffers<'a, 'b, R: Threads + Wait + Sync, G: Gate + Sync>(
     rt: &R,
     gate: &G,
@@ -86,7 +86,7 @@ fn use_buffers<'a, 'b, R: Threads + Wait + Sync, G: Gate + Sync>(
     }
 }
 
-// The block over the cells. Where memory is refused they stay as they are.
+// Runs the block over the cells. Where memory is refused they stay as they are.
 fn used<'a, R: Threads + Wait + Sync, G: Gate + Sync>(
     rt: &R,
     gate: &G,

@@ -9,7 +9,7 @@ use fv_loopcode::Store;
 // How many samples of a lane are copied at a time, where a frame has several.
 const STRIP: usize = 32;
 
-// A number of frame t.
+// Puts a number into frame t.
 fn put(output: &mut [i32], t: usize, place: usize, width: usize, x: i32)
     requires inside { place < width }
     requires there { t * width + place < length output.old }
@@ -20,7 +20,7 @@ fn put(output: &mut [i32], t: usize, place: usize, width: usize, x: i32)
     output[t * width + place] = x;
 }
 
-// The numbers of a row, one in each frame, from one frame on.
+// Puts the numbers of a row into frames, one in each, from frame `from` on.
 fn put_row(row: &[i32], from: usize, place: usize, width: usize, output: &mut [i32])
     requires inside { place < width }
     requires there { (from + length row.now) * width ≤ length output.old }
@@ -33,7 +33,7 @@ fn put_row(row: &[i32], from: usize, place: usize, width: usize, output: &mut [i
     }
 }
 
-// As many samples of a lane as the row has, from frame `from` on, each at its place of its frame. The row is room for them.
+// Copies as many samples of a lane as the row has, from frame `from` on, each to its place of its frame. The row is room for them.
 fn copy_strip<S: Store>(
     lane: u64,
     from: u64,
@@ -58,7 +58,7 @@ fn copy_strip<S: Store>(
     put_row(row, from as usize, place, width, output);
 }
 
-// The samples of a lane, each at its place of its frame.
+// Copies the samples of a lane, each to its place of its frame.
 fn copy_lane<S: Store>(
     lane: u64,
     place: usize,

@@ -40,7 +40,7 @@ pub struct Job<'p, 'h, 'i, P> {
     pub frames: u32,
 }
 
-// The code of one task.
+// Runs the code of one task.
 fn run_task<P: Codes, S: Store>(
     job: &Job<'_, '_, '_, P>,
     task: Task,
@@ -81,7 +81,7 @@ fn run_task<P: Codes, S: Store>(
     );
 }
 
-// The worker takes a task.
+// Takes a task for the worker.
 fn take(core: &mut Core, tasks: &Tasks, t: u64)
     requires same { core.old.tasks ≡ tasks.now.tasks }
     requires free { IsFree core.old.now }
@@ -95,7 +95,7 @@ fn take(core: &mut Core, tasks: &Tasks, t: u64)
     let _ = core.step(tasks, Event::Take { worker: 0, task: t });
 }
 
-// The worker has done its task, and owes what it feeds.
+// Notes that the worker has done its task, and owes what it feeds.
 fn finish(core: &mut Core, tasks: &Tasks, t: u64)
     requires same { core.old.tasks ≡ tasks.now.tasks }
     requires runs { Runs core.old.now t }
@@ -106,7 +106,7 @@ fn finish(core: &mut Core, tasks: &Tasks, t: u64)
     core.finish(tasks, 0, t);
 }
 
-// The worker arrives at an edge.
+// Notes that the worker arrives at an edge.
 fn arrive(core: &mut Core, tasks: &Tasks, edge: u64)
     requires same { core.old.tasks ≡ tasks.now.tasks }
     requires owes { (es : List ℕ) × Owes core.old.now (edge ∷ es) }
@@ -117,7 +117,7 @@ fn arrive(core: &mut Core, tasks: &Tasks, edge: u64)
     core.arrive(tasks, 0, edge);
 }
 
-// The worker arrives at all edges that it owes.
+// Notes that the worker arrives at all edges that it owes.
 fn arrive_all(core: &mut Core, tasks: &Tasks, t: u64)
     requires same { core.old.tasks ≡ tasks.now.tasks }
     requires task { t < task_count tasks.now.tasks }
@@ -132,7 +132,7 @@ fn arrive_all(core: &mut Core, tasks: &Tasks, t: u64)
     }
 }
 
-// One task: the worker takes it, runs its code, and arrives at what it feeds.
+// Does one task: takes it, runs its code, and arrives at what it feeds.
 fn turn<P: Codes, S: Store, G: Gate>(
     job: &Job<'_, '_, '_, P>,
     tasks: &Tasks,
@@ -179,7 +179,7 @@ fn turn<P: Codes, S: Store, G: Gate>(
     });
 }
 
-// The worker leaves, and all is done.
+// Notes that the worker leaves: all is done.
 fn leave(core: &mut Core, tasks: &Tasks)
     requires same { core.old.tasks ≡ tasks.now.tasks }
     requires one { core.old.workers ≡ 1 }

@@ -21,7 +21,7 @@ use fv_rules::EvalRefusal;
 use std::alloc::AllocError;
 
 impl Machine {
-    /// The next argument of an application is visited, or its function is applied to all of them.
+    /// Visits the next argument of an application, or applies its function to all of them.
     pub fn next_argument(
         &mut self,
         text: &Definitions,
@@ -58,7 +58,7 @@ impl Machine {
         }
     }
 
-    /// A value is applied to arguments, from a place on.
+    /// Applies a value to arguments, from a place on.
     pub fn apply(
         &mut self,
         text: &Definitions,
@@ -89,7 +89,7 @@ impl Machine {
         Ok(Focus::Give(function))
     }
 
-    // A function with one argument more, where it wants others after it.
+    // Gives a function one argument more, where it wants others after it.
     fn take(
         &mut self,
         text: &Definitions,
@@ -126,7 +126,7 @@ impl Machine {
         }
     }
 
-    // An abstraction with one parameter more bound, where it has others after it.
+    // Binds one parameter more of an abstraction, where it has others after it.
     fn take_parameter(
         &mut self,
         tree: &Tree,
@@ -156,7 +156,7 @@ impl Machine {
         }))
     }
 
-    // A function with the last argument that it wants.
+    // Gives a function the last argument that it wants.
     fn complete(
         &mut self,
         text: &Definitions,
@@ -197,7 +197,7 @@ impl Machine {
         }
     }
 
-    // The rule that rules choose with the last argument that they want.
+    // Finds the rule that rules choose with the last argument that they want.
     fn choose(
         &mut self,
         text: &Definitions,
@@ -221,7 +221,7 @@ impl Machine {
         Ok(choice)
     }
 
-    // The right side of the rule that was chosen is visited; where none was, the application is refused.
+    // Visits the right side of the rule that was chosen; where none was, refuses the application.
     fn select(
         &mut self,
         text: &Definitions,
@@ -244,7 +244,7 @@ impl Machine {
         }
     }
 
-    // A body is visited, and the arguments after this place wait for its value.
+    // Visits a body; the arguments after this place wait for its value.
     fn leave(
         &mut self,
         application: TreeId,

@@ -28,7 +28,7 @@ use fv_rules::EvalRefusal;
 use std::alloc::AllocError;
 
 impl Machine {
-    /// A value is given to the innermost continuation.
+    /// Gives a value to the innermost continuation.
     pub fn arrive(&mut self, text: &Definitions, value: Value) -> Result<Focus, EvalRefusal>
         requires { Runs text.now self.old (Gives value) }
         ensures { (v : Meant) → ShowsValue (world text.now self.old) value v
@@ -45,7 +45,7 @@ impl Machine {
         }
     }
 
-    // A value with a number as that integer.
+    // Turns a value that has a number into that integer.
     fn settle(&mut self, value: Value) -> Result<Value, AllocError>
         requires { IsDrawn self.old.drawing.diagrams value }
         ensures grew { (p : Parsed) → Grew p self.old self.new }
@@ -58,7 +58,7 @@ impl Machine {
         Ok(Value::Diagram(settled))
     }
 
-    // A value arrives where one is waited for.
+    // Gives a value to what waits for one.
     fn value_arrives(
         &mut self,
         text: &Definitions,
@@ -97,7 +97,7 @@ impl Machine {
         }
     }
 
-    /// A diagram arrives where one is waited for.
+    /// Gives a diagram to what waits for one.
     pub fn diagram_arrives(
         &mut self,
         text: &Definitions,
@@ -143,7 +143,7 @@ impl Machine {
         }
     }
 
-    // The left part of a node of two parts is done; the right one is visited.
+    // Visits the right part of a node of two parts, whose left one is done.
     fn right(
         &mut self,
         text: &Definitions,
@@ -167,7 +167,7 @@ impl Machine {
         self.wait(Continuation::Drawn(continuation), *y, env)
     }
 
-    // The number of a diagram's inputs or outputs.
+    // Gives the number of a diagram's inputs or outputs.
     fn ports(&mut self, side: Side, diagram: DiagramId) -> Result<Focus, EvalRefusal>
         requires { diagram < count_of self.old.drawing.diagrams }
         ensures { (p : Parsed) (d : Diagram) → Draws (world p self.old) diagram d

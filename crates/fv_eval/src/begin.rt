@@ -25,7 +25,7 @@ use fv_parse_grammar::Literal;
 use fv_rules::{EvalRefusal, literal, literal_value, negative_literal};
 
 impl Machine {
-    /// A number is given.
+    /// Gives a number.
     pub fn constant(&mut self, n: i32) -> Result<Focus, EvalRefusal>
         ensures { (p : Parsed) → Steps p self.old self.new result (λ Fs s. Running (Give (Flat (Constant n))) Fs s) }
     {
@@ -33,7 +33,7 @@ impl Machine {
         Ok(Focus::Give(Value::Diagram(id)))
     }
 
-    // A primitive is given.
+    // Gives a primitive.
     fn primitive(&mut self, primitive: Prim) -> Result<Focus, EvalRefusal>
         ensures { (p : Parsed) → Steps p self.old self.new result (λ Fs s. Running (Give (Flat (Leaf primitive))) Fs s) }
     {
@@ -41,7 +41,7 @@ impl Machine {
         Ok(Focus::Give(Value::Diagram(id)))
     }
 
-    // A waveform is given.
+    // Gives a waveform.
     fn waveform(&mut self, literals: &[Literal]) -> Result<Focus, EvalRefusal>
         requires { 1 ≤ length literals.now }
         ensures { (p : Parsed) → Steps p self.old self.new result (λ Fs s. given (flat (waved (map literal_value literals.now)) s) Fs) }
@@ -53,7 +53,7 @@ impl Machine {
         give(self.drawing.waveform(values.as_slice()))
     }
 
-    // A part is visited, and this waits for its diagram.
+    // Visits a part, and has this wait for its diagram.
     fn draw(&mut self, continuation: ForDiagram, id: TreeId, env: u64) -> Result<Focus, EvalRefusal>
         ensures { (p : Parsed) (F : Waiting) (x : Tree) (E : Env) → ShowsContinuation (world p self.old) (Continuation.Drawn continuation) F
             → ShowsTree (world p self.old) id x → ShowsEnv (world p self.old) env E
@@ -62,7 +62,7 @@ impl Machine {
         self.wait(Continuation::Drawn(continuation), id, env)
     }
 
-    // A name is called, to be negated.
+    // Calls a name, to be negated.
     fn negated(&mut self, name: u64, env: u64) -> Result<Focus, EvalRefusal>
         ensures { (p : Parsed) (F : Waiting) (x : Name) (E : Env) → ShowsContinuation (world p self.old) (Continuation.Drawn ForDiagram.Negated) F
             → IsNamed (world p self.old) name x → ShowsEnv (world p self.old) env E
@@ -71,7 +71,7 @@ impl Machine {
         self.wait_for_name(Continuation::Drawn(ForDiagram::Negated), name, env)
     }
 
-    // The first parameter of a slider is visited.
+    // Visits the first parameter of a slider.
     fn slider(&mut self, text: &Definitions, id: TreeId, env: u64) -> Result<Focus, EvalRefusal>
         requires inside { id < size_of text.now }
         requires form { IsSlider (tree_in text.now id) }
@@ -82,7 +82,7 @@ impl Machine {
         self.next_parameter(text, id, env, done)
     }
 
-    /// A tree is visited: its rule, up to the next visit or value.
+    /// Visits a tree: does its rule, up to the next visit or value.
     pub fn visit(&mut self, text: &Definitions, id: TreeId, env: u64) -> Result<Focus, EvalRefusal>
         requires { id < size_of text.now }
         ensures { Begins text.now self.old self.new result env (tree_in text.now id) }

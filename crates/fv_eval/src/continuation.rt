@@ -125,7 +125,7 @@ impl Continuations {
         }
     }
 
-    /// One more.
+    /// Adds one as the innermost.
     pub fn push(&mut self, continuation: Continuation) -> Result<(), AllocError>
         ensures ok { OnOk result (self.new ≡ self.old ++ continuation ∷ []) }
         ensures err { OnErr result (self.new ≡ self.old) }
@@ -135,7 +135,7 @@ impl Continuations {
         Ok(())
     }
 
-    /// The innermost one is taken; `None` where nothing waits.
+    /// Takes the innermost one; `None` where nothing waits.
     pub fn pop(&mut self) -> Option<Continuation>
         ensures { MatchOption result (self.old ≡ []) (λ f. self.old ≡ self.new ++ f ∷ []) }
     {

@@ -27,7 +27,7 @@ use fv_parse::{Tree, TreeId, TreeNode};
 use fv_rules::EvalRefusal;
 
 impl Machine {
-    /// The count of an iteration arrives, and its first body is visited.
+    /// Takes the count of an iteration, and visits its first body.
     pub fn count(
         &mut self,
         text: &Definitions,
@@ -59,7 +59,7 @@ impl Machine {
         }
     }
 
-    /// The next body of an iteration is visited, or the bodies are put together.
+    /// Visits the next body of an iteration, or puts the bodies together.
     pub fn next_body(
         &mut self,
         text: &Definitions,

@@ -104,7 +104,7 @@ impl Machine {
         true
     }
 
-    /// One step.
+    /// Does one step.
     pub fn step(&mut self, text: &Definitions, focus: Focus) -> Result<Focus, EvalRefusal>
         requires { Runs text.now self.old focus }
         ensures { (c : Config) → Goes text.now self.old (Ok focus) c → Goes text.now self.new result (step text.now.tokens c) }

@@ -82,7 +82,7 @@ pub fn body_of(tree: &Tree, id: TreeId) -> TreeId
 }
 
 impl Machine {
-    /// What a name stands for is given or visited.
+    /// Gives or visits what a name stands for.
     pub fn name(&mut self, text: &Definitions, name: u64, env: u64) -> Result<Focus, EvalRefusal>
         ensures { (x : Name) (E : Env) → IsNamed (world text.now self.old) name x → ShowsEnv (world text.now self.old) env E
             → Steps text.now self.old self.new result (λ Fs s. begin_name x (lookup text.now.tokens E x) Fs s) }

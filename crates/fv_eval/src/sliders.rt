@@ -68,7 +68,7 @@ fn part_of(tree: &Tree, slider: TreeId, i: usize) -> Option<TreeId>
 }
 
 impl Machine {
-    // A control with this label is given. Where the label was met before, it is not read again.
+    // Gives a control with this label. Where the label was met before, it is not read again.
     fn control(&mut self, tree: &Tree, label: u64, range: &Range) -> Result<Focus, EvalRefusal>
         ensures { Steps tree.now self.old self.new result (λ Fs s. given (flat (control (info_of range.now (label_of tree.now.tokens label))) s) Fs) }
     {
@@ -78,7 +78,7 @@ impl Machine {
         }
     }
 
-    // The control with this number is given.
+    // Gives the control with this number.
     fn give_control(&mut self, number: u32) -> Result<Focus, EvalRefusal>
         ensures { (p : Parsed) → Steps p self.old self.new result (λ Fs s. Running (Give (Flat (Control number))) Fs s) }
     {
@@ -86,7 +86,7 @@ impl Machine {
         Ok(Focus::Give(Value::Diagram(id)))
     }
 
-    // A control with this label is entered and given, and its label is kept.
+    // Enters and gives a control with this label, and keeps its label.
     fn enter(&mut self, tree: &Tree, label: u64, range: &Range) -> Result<Focus, EvalRefusal>
         ensures { Steps tree.now self.old self.new result (λ Fs s. given (flat (control (info_of range.now (label_of tree.now.tokens label))) s) Fs) }
     {
@@ -100,7 +100,7 @@ impl Machine {
         }
     }
 
-    /// A button or a checkbox.
+    /// Gives a button or a checkbox.
     pub fn switch(&mut self, tree: &Tree, kind: Switch, label: u64) -> Result<Focus, EvalRefusal>
         ensures { Steps tree.now self.old self.new result
             (λ Fs s. given (flat (control (switch_info (switch_kind kind) (label_of tree.now.tokens label))) s) Fs) }
@@ -114,7 +114,7 @@ impl Machine {
         self.control(tree, label, &range)
     }
 
-    /// The next parameter of a slider is visited, or the slider is given.
+    /// Visits the next parameter of a slider, or gives the slider.
     pub fn next_parameter(
         &mut self,
         text: &Definitions,
@@ -138,7 +138,7 @@ impl Machine {
         }
     }
 
-    // A slider whose parameters are known.
+    // Gives a slider whose parameters are known.
     fn finish_slider(
         &mut self,
         tree: &Tree,
@@ -179,7 +179,7 @@ impl Machine {
         }
     }
 
-    /// A parameter of a slider arrives.
+    /// Takes a parameter of a slider.
     pub fn parameter_arrives(
         &mut self,
         text: &Definitions,

@@ -25,7 +25,7 @@ use fv_rules::{EvalRefusal, too_many_to_count};
 use std::alloc::AllocError;
 
 impl Machine {
-    /// A value arrives where a diagram is waited for. An abstraction is turned into one first.
+    /// Turns a value into a diagram where one is waited for. An abstraction is turned into one first.
     pub fn turn(
         &mut self,
         text: &Definitions,
@@ -57,7 +57,7 @@ impl Machine {
         }
     }
 
-    // The parameters that are left bound to new slots, in an environment.
+    // Binds the parameters that are left to new slots, in an environment.
     fn on_slots(
         &mut self,
         tree: &Tree,
@@ -88,7 +88,7 @@ impl Machine {
         Ok(inner)
     }
 
-    /// The next argument of a diagram is turned into a diagram, or the diagram is fed with all of them.
+    /// Turns the next argument of a diagram into a diagram, or feeds the diagram with all of them.
     pub fn next_turned(
         &mut self,
         function: DiagramId,

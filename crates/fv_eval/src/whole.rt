@@ -91,7 +91,7 @@ fn process_name(tree: &Tree) -> Option<u64>
     None
 }
 
-// The machine opens the outermost definitions and calls `process` among them, whose diagram it then wants.
+// Opens the outermost definitions and calls `process` among them; the machine then wants its diagram.
 fn call_process(machine: &mut Machine, tree: &Tree, name: u64) -> Result<Focus, AllocError>
     requires new { IsNew machine.old start }
     requires named { (text_of tree.now.tokens name ≡ codes "process") × (first_named tree.now.tokens name ≡ name) }

@@ -106,7 +106,7 @@ impl Drawing {
         }
     }
 
-    /// A diagram on its arguments; on none it is itself.
+    /// Puts a diagram on its arguments; on none it is itself.
     pub fn feed(
         &mut self,
         function: DiagramId,

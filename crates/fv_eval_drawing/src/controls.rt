@@ -90,7 +90,7 @@ impl Controls {
         }
     }
 
-    /// The number of a control, which is a new one where its label is.
+    /// Enters a control, and returns its number: a new one where its label is new.
     pub fn enter(&mut self, info: ControlInfo) -> Result<u32, EvalRefusal>
         ensures enters { Enters self.old self.new info result }
         ensures label { IfOk result (HasLabel self.new info.label) }

@@ -22,7 +22,7 @@ pub enum Link {
 }
 
 impl Drawing {
-    // Two parts put together.
+    // Puts two parts together.
     fn link(
         &mut self,
         link: Link,
@@ -41,7 +41,7 @@ impl Drawing {
         }
     }
 
-    /// A list put together from the right.
+    /// Puts a list together from the right.
     pub fn from_right(
         &mut self,
         link: Link,
@@ -64,7 +64,7 @@ impl Drawing {
         Ok(whole)
     }
 
-    // A part and others put together from the left by an operation.
+    // Puts a part and others together from the left by an operation.
     fn from_left(
         &mut self,
         op: Op,
@@ -84,7 +84,7 @@ impl Drawing {
         Ok(whole)
     }
 
-    // A list put together from the left by an operation.
+    // Puts a list together from the left by an operation.
     fn all_from_left(&mut self, op: Op, parts: &[DiagramId]) -> Result<DiagramId, EvalRefusal>
         requires { AreThere self.old.diagrams parts.now }
         ensures makes { Makes self.old self.new (all_from_left op (trees_of self.old.diagrams parts.now)) result }
@@ -96,7 +96,7 @@ impl Drawing {
         }
     }
 
-    /// The bodies of an iteration put together.
+    /// Puts the bodies of an iteration together.
     pub fn gather(
         &mut self,
         kind: Iteration,

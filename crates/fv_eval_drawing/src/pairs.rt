@@ -16,7 +16,7 @@ use fv_parse_grammar::Operator;
 use fv_rules::EvalRefusal;
 
 impl Drawing {
-    /// An operation on two parts: `a op b` is `a,b : op`.
+    /// Puts an operation on two parts: `a op b` is `a,b : op`.
     pub fn operate(
         &mut self,
         primitive: Prim,
@@ -37,7 +37,7 @@ impl Drawing {
         })
     }
 
-    /// Two parts joined.
+    /// Joins two parts.
     pub fn join(
         &mut self,
         operator: Operator,
@@ -60,7 +60,7 @@ impl Drawing {
         }
     }
 
-    /// `d : mem`.
+    /// Puts `d : mem`.
     pub fn delay(&mut self, diagram: DiagramId) -> Result<DiagramId, EvalRefusal>
         requires { diagram < count_of self.old.diagrams }
         ensures makes { Makes self.old self.new (put (Seq (tree_of self.old.diagrams diagram) (Leaf prim.Mem))) result }
@@ -73,7 +73,7 @@ impl Drawing {
         })
     }
 
-    /// `0 - d`.
+    /// Puts `0 - d`.
     pub fn negate(&mut self, diagram: DiagramId) -> Result<DiagramId, EvalRefusal>
         requires { diagram < count_of self.old.diagrams }
         ensures makes { Makes self.old self.new

@@ -58,7 +58,7 @@ impl Drawing {
         }
     }
 
-    // A table in the place of its primitive, after what it takes.
+    // Puts a table in the place of its primitive, after what it takes.
     pub(crate) fn table(
         &mut self,
         before: DiagramId,
@@ -79,7 +79,7 @@ impl Drawing {
         }
     }
 
-    // The table of a head, put after what it takes. The sum is tried before a number is computed.
+    // Puts the table of a head after what it takes. The sum is tried before a number is computed.
     fn table_of(
         &mut self,
         head: Vec<DiagramId>,
@@ -108,7 +108,7 @@ impl Drawing {
         self.table_behind(taken, values.as_slice(), writes)
     }
 
-    // A table of these numbers after a diagram.
+    // Puts a table of these numbers after a diagram.
     fn table_behind(
         &mut self,
         taken: DiagramId,
@@ -132,7 +132,7 @@ impl Drawing {
         })
     }
 
-    /// A waveform of numbers, by which the table sum grows.
+    /// Puts a waveform of numbers, by which the table sum grows.
     pub fn waveform(&mut self, values: &[i32]) -> Result<DiagramId, EvalRefusal>
         requires { 1 ≤ length values.now }
         ensures makes { Makes self.old self.new (waved values.now) result }
@@ -187,7 +187,7 @@ impl Drawing {
         Ok(whole)
     }
 
-    // Two parts side by side.
+    // Puts two parts side by side.
     fn beside(&mut self, left: DiagramId, right: DiagramId) -> Result<DiagramId, EvalRefusal>
         requires left { left < count_of self.old.diagrams }
         requires right { right < count_of self.old.diagrams }

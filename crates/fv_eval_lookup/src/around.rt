@@ -149,7 +149,7 @@ impl Around {
     }
 }
 
-// A tree that has the names of a list, and those of another tree.
+// Makes a trie that has the names of a list, and those of another trie. Returns its root.
 fn with_names(
     tries: &mut Tries,
     definitions: &Definitions,

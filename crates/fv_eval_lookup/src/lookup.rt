@@ -143,7 +143,7 @@ impl<'a> Definitions<'a> {
         }
     }
 
-    // An index of the rules at a place, to be looked for at a node.
+    // Makes an index of the rules at a place, to be looked for at a node.
     fn index_rules(&mut self, alloc: Global, ruled: &Ruled, node: TreeId) -> Result<(), AllocError>
         requires { IsInside self.old ruled.now }
         ensures { OnOk result (self.new ≡ self.old) }

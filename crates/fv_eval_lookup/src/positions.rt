@@ -105,7 +105,7 @@ impl Position {
         Ok(self.wants.len() >= count / 8 && same.is_empty())
     }
 
-    /// The positions further within, where many rules want a composition.
+    /// Appends the positions further within, where many rules want a composition.
     pub(crate) fn further(
         &self,
         alloc: Global,

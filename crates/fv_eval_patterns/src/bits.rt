@@ -75,7 +75,7 @@ impl Bits {
         Ok(Bits { words })
     }
 
-    /// One place more.
+    /// Adds a place.
     pub fn add(&mut self, place: u64) -> Result<(), AllocError>
         ensures keeps { (j : ℕ) → has self.old j ≡ true → has self.new j ≡ true }
         ensures added { IfOk result (λ _. has self.new place ≡ true) }

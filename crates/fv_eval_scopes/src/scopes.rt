@@ -49,7 +49,7 @@ impl Scopes {
         }
     }
 
-    /// A name bound to a value, in an environment: the number of the new environment.
+    /// Binds a name to a value in an environment, and returns the number of the new environment.
     pub fn bind(&mut self, name: u64, value: Value, outer: u64) -> Result<u64, AllocError>
         ensures ok { IfOk result (λ i. (i ≡ length self.old.scopes + 1)
             × (self.new ≡ with_scope self.old (Bound name value outer))) }
@@ -58,7 +58,7 @@ impl Scopes {
         self.push(Scope::Bound { name, value, outer })
     }
 
-    /// A list of definitions, in an environment: the number of the new environment.
+    /// Opens a list of definitions in an environment, and returns the number of the new environment.
     pub fn open(&mut self, list: TreeId, outer: u64) -> Result<u64, AllocError>
         ensures ok { IfOk result (λ i. (i ≡ length self.old.scopes + 1)
             × (self.new ≡ with_scope self.old (Definitions list outer))) }
@@ -67,7 +67,7 @@ impl Scopes {
         self.push(Scope::Definitions { list, outer })
     }
 
-    // One scope more, with the way outward from it.
+    // Adds a scope, with the way outward from it.
     fn push(&mut self, scope: Scope) -> Result<u64, AllocError>
         ensures ok { IfOk result (λ i. (i ≡ length self.old.scopes + 1) × (self.new ≡ with_scope self.old scope)) }
         ensures err { OnErr result (self.new ≡ self.old) }

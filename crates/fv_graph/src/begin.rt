@@ -13,7 +13,7 @@ use crate::by_worker::{empty_deque, empty_list, put_back};
 use std::alloc::{AllocError, Global};
 use std::collections::VecDeque;
 
-// No task is done, and each waits for those that it reads.
+// Begins anew: no task is done, and each waits for those that it reads.
 pub(crate) fn open_tasks(tasks: &Tasks, counts: &mut Vec<u64>, done: &mut Vec<bool>)
     requires counts { task_count tasks.now.tasks ≤ vec_capacity counts.old }
     requires done { task_count tasks.now.tasks ≤ vec_capacity done.old }
@@ -31,7 +31,7 @@ pub(crate) fn open_tasks(tasks: &Tasks, counts: &mut Vec<u64>, done: &mut Vec<bo
     }
 }
 
-// A task goes to the deque of a worker if it waits for none. The worker whose turn it is then.
+// Deals a task to the deque of a worker if it waits for none. Returns the worker whose turn it is then.
 fn deal_one(deques: &mut Vec<VecDeque<u64>>, worker: usize, task: u64, count: u64) -> usize
     requires there { worker < vec_len deques.old }
     requires room { length (slice_index_or (deques_of deques.old.items) worker []) < slice_index_or (rooms_of deques.old.items) worker 0 }
@@ -49,7 +49,7 @@ fn deal_one(deques: &mut Vec<VecDeque<u64>>, worker: usize, task: u64, count: u6
     (worker + 1) % deques.len()
 }
 
-// The tasks that read no other go to the deques in turn.
+// Deals the tasks that read no other to the deques in turn.
 pub(crate) fn deal(tasks: &Tasks, deques: &mut Vec<VecDeque<u64>>)
     requires some_worker { 0 < vec_len deques.old }
     requires empty { deques_of deques.old.items ≡ replicate (vec_len deques.old) [] }
@@ -95,7 +95,7 @@ pub(crate) fn empty_lists(
     Ok(lists)
 }
 
-// All deques are emptied.
+// Empties all deques.
 pub(crate) fn clear_deques(deques: &mut Vec<VecDeque<u64>>)
     ensures empty { deques_of deques.new.items ≡ replicate (vec_len deques.old) [] }
     ensures rooms { rooms_of deques.new.items ≡ rooms_of deques.old.items }
@@ -105,7 +105,7 @@ pub(crate) fn clear_deques(deques: &mut Vec<VecDeque<u64>>)
     }
 }
 
-// All lists are emptied.
+// Empties all lists.
 pub(crate) fn clear_lists(lists: &mut Vec<Vec<u64>>)
     ensures empty { owed_of lists.new.items ≡ replicate (vec_len lists.old) [] }
     ensures rooms { owed_rooms lists.new.items ≡ owed_rooms lists.old.items }
@@ -126,7 +126,7 @@ pub(crate) fn repeated<T: Copy>(alloc: Global, x: T, count: usize) -> Result<Vec
     Ok(xs)
 }
 
-// All elements become the same.
+// Sets all elements to one value.
 pub(crate) fn set_all<T: Copy>(xs: &mut Vec<T>, x: T)
     ensures { xs.new.items ≡ replicate (vec_len xs.old) x }
 {

@@ -25,7 +25,7 @@ pub(crate) fn front(deques: &[VecDeque<u64>], w: usize) -> Option<u64>
     deques[w].front().copied()
 }
 
-// The deque of a worker is emptied.
+// Empties the deque of a worker.
 pub(crate) fn empty_deque(deques: &mut Vec<VecDeque<u64>>, w: usize)
     requires { w < vec_len deques.old }
     ensures deque { deques_of deques.new.items ≡ slice_set (deques_of deques.old.items) w [] }
@@ -36,7 +36,7 @@ pub(crate) fn empty_deque(deques: &mut Vec<VecDeque<u64>>, w: usize)
     deque.clear();
 }
 
-// The back leaves the deque of a worker.
+// Removes the task at the back of a worker's deque.
 pub(crate) fn take_back(deques: &mut Vec<VecDeque<u64>>, w: usize)
     requires { w < vec_len deques.old }
     ensures deque { deques_of deques.new.items ≡ slice_set (deques_of deques.old.items) w (but_back (slice_index_or (deques_of deques.old.items) w [])) }
@@ -46,7 +46,7 @@ pub(crate) fn take_back(deques: &mut Vec<VecDeque<u64>>, w: usize)
     let _ = deque.pop_back();
 }
 
-// The front leaves it.
+// Removes the task at the front of a worker's deque.
 pub(crate) fn take_front(deques: &mut Vec<VecDeque<u64>>, w: usize)
     requires { w < vec_len deques.old }
     ensures deque { deques_of deques.new.items ≡ slice_set (deques_of deques.old.items) w (but_front (slice_index_or (deques_of deques.old.items) w [])) }
@@ -56,7 +56,7 @@ pub(crate) fn take_front(deques: &mut Vec<VecDeque<u64>>, w: usize)
     let _ = deque.pop_front();
 }
 
-// A task goes to the back of it.
+// Puts a task at the back of a worker's deque.
 pub(crate) fn put_back(deques: &mut Vec<VecDeque<u64>>, w: usize, task: u64)
     requires there { w < vec_len deques.old }
     requires room { length (slice_index_or (deques_of deques.old.items) w []) < slice_index_or (rooms_of deques.old.items) w 0 }
@@ -68,7 +68,7 @@ pub(crate) fn put_back(deques: &mut Vec<VecDeque<u64>>, w: usize, task: u64)
     deque.push_back_reserved(task);
 }
 
-// A task of this count goes there if the count is 0.
+// Puts a task at the back of a worker's deque if its count is 0.
 pub(crate) fn put_ready(deques: &mut Vec<VecDeque<u64>>, w: usize, task: u64, count: u64)
     requires there { w < vec_len deques.old }
     requires room { length (slice_index_or (deques_of deques.old.items) w []) < slice_index_or (rooms_of deques.old.items) w 0 }
@@ -92,7 +92,7 @@ pub(crate) fn owe(owes: &mut Vec<Vec<u64>>, w: usize, edges: &[u64])
     append(owed, edges);
 }
 
-// Numbers are appended, for which there is room.
+// Appends numbers, for which there is room.
 fn append(owed: &mut Vec<u64>, edges: &[u64])
     requires { vec_len owed.old + length edges.now ≤ vec_capacity owed.old }
     ensures items { owed.new.items ≡ owed.old.items ++ edges.now }
@@ -120,7 +120,7 @@ fn take_out(owed: &mut Vec<u64>, edge: u64)
     }
 }
 
-// An edge is not owed any more.
+// Removes an edge from those that a worker owes.
 pub(crate) fn forget(owes: &mut Vec<Vec<u64>>, w: usize, edge: u64)
     requires { w < vec_len owes.old }
     ensures owed { owed_of owes.new.items ≡ slice_set (owed_of owes.old.items) w (without edge (slice_index_or (owed_of owes.old.items) w [])) }
@@ -158,7 +158,7 @@ pub(crate) fn is_idle(left: &[bool], runs: &[Option<u64>], owes: &[Vec<u64>], w:
     !left[w] && runs[w].is_none() && owes[w].is_empty()
 }
 
-// A worker owes nothing any more.
+// Removes all edges that a worker owes.
 pub(crate) fn empty_list(owes: &mut Vec<Vec<u64>>, w: usize)
     requires { w < vec_len owes.old }
     ensures owed { owed_of owes.new.items ≡ slice_set (owed_of owes.old.items) w [] }

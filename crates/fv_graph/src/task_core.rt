@@ -99,7 +99,7 @@ impl Core {
         })
     }
 
-    /// The state of a new core for these tasks, with its own workers. It takes no memory.
+    /// Begins anew for these tasks, with the workers of the core: the state of a new core. It takes no memory.
     pub fn reset(&mut self, tasks: &Tasks)
         requires tasks { task_count tasks.now.tasks ≤ self.old.room_tasks }
         requires edges { edges_of tasks.now.tasks ≤ self.old.room_edges }
@@ -114,7 +114,7 @@ impl Core {
         self.seen = Snapshot::of(tasks);
     }
 
-    // The worker takes the back of its deque.
+    // Takes the back of the worker's deque.
     fn take(&mut self, worker: u32, task: u64)
         requires { is_legal (net_of self.old.tasks) self.old.now (Take worker task) ≡ true }
         ensures { self.new ≡ record self.old { now = after (net_of self.old.tasks) self.old.now (Take worker task) } }
@@ -123,7 +123,7 @@ impl Core {
         self.runs[worker as usize] = Some(task);
     }
 
-    // The thief takes the front of the victim's deque.
+    // Takes the front of the victim's deque for the thief.
     fn steal(&mut self, thief: u32, victim: u32, task: u64)
         requires { is_legal (net_of self.old.tasks) self.old.now (Steal thief victim task) ≡ true }
         ensures { self.new ≡ record self.old { now = after (net_of self.old.tasks) self.old.now (Steal thief victim task) } }
@@ -132,8 +132,8 @@ impl Core {
         self.runs[thief as usize] = Some(task);
     }
 
-    /// The task is done, and the worker owes the inner edges out of it: the step `Finish`, for one who knows that it is legal. The tasks
-    /// are those that the core was made for, or reset for last.
+    /// Notes that the task is done, and that the worker owes the inner edges out of it: the step `Finish`, for one who knows that
+    /// it is legal. The tasks are those that the core was made for, or reset for last.
     pub fn finish(&mut self, tasks: &Tasks, worker: u32, task: u64)
         requires same { self.old.tasks ≡ tasks.now.tasks }
         requires legal { is_legal (net_of self.old.tasks) self.old.now (Finish worker task) ≡ true }
@@ -144,8 +144,8 @@ impl Core {
         owe(&mut self.owes, worker as usize, tasks.feeds(task));
     }
 
-    /// The worker gives the edge: its reader waits for one task fewer, and where it waits for none it goes to the back of the
-    /// worker's deque. This is the step `Arrive`, for one who knows that it is legal.
+    /// Gives an edge: its reader waits for one task fewer, and where it waits for none it goes to the back of the worker's deque.
+    /// This is the step `Arrive`, for one who knows that it is legal.
     pub fn arrive(&mut self, tasks: &Tasks, worker: u32, edge: u64)
         requires same { self.old.tasks ≡ tasks.now.tasks }
         requires legal { is_legal (net_of self.old.tasks) self.old.now (Arrive worker edge) ≡ true }
@@ -158,7 +158,7 @@ impl Core {
         put_ready(&mut self.deques, worker as usize, reader, count);
     }
 
-    // The worker leaves.
+    // Notes that the worker leaves.
     fn leave(&mut self, worker: u32)
         requires { is_legal (net_of self.old.tasks) self.old.now (Leave worker) ≡ true }
         ensures { self.new ≡ record self.old { now = after (net_of self.old.tasks) self.old.now (Leave worker) } }
@@ -239,7 +239,7 @@ impl Core {
         }
     }
 
-    // A legal event.
+    // Does a legal event.
     fn act(&mut self, tasks: &Tasks, event: Event)
         requires same { self.old.tasks ≡ tasks.now.tasks }
         requires legal { is_legal (net_of self.old.tasks) self.old.now event ≡ true }
@@ -258,8 +258,8 @@ impl Core {
         }
     }
 
-    /// What a worker does, if the core has such an event in this state; else the core is unchanged. The tasks are those that the
-    /// core was made for, or reset for last.
+    /// Does what a worker does, if the core has such an event in this state; else the core is unchanged. The tasks are those that
+    /// the core was made for, or reset for last.
     pub fn step(&mut self, tasks: &Tasks, event: Event) -> Result<(), Illegal>
         requires same { self.old.tasks ≡ tasks.now.tasks }
         ensures legal { is_ok result ≡ is_legal (net_of tasks.now.tasks) self.old.now event }

@@ -34,7 +34,7 @@ pub fn exchange(list: &mut [i32], w: i32, x: i32, r: i32) -> i32
     list[place(count, r)]
 }
 
-// These numbers become others, as many. Of a copy in two pieces one mostly has none, and so that is told apart.
+// Copies numbers over as many others. Of a copy in two pieces one mostly has none, so an empty one is not copied at all.
 #[inline(always)]
 pub(crate) fn copy_if_some(to: &mut [i32], from: &[i32])
     requires { length to.old ≡ length from.now }

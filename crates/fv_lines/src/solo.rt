@@ -258,7 +258,7 @@ impl<'a, 'l, 's, 'b, 'c> Solo<'a, 'l, 's, 'b, 'c> {
         )
     }
 
-    // As many samples of a lane as `to` has, from its origin.
+    // Copies as many samples of a lane as `to` has, from its origin.
     fn read_many(&self, lane: u64, index: u64, back: u64, to: &mut [i32])
         requires valid { IsSolo self.now }
         requires there { lane < length (lengths_in self.now) }

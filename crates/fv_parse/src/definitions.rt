@@ -112,7 +112,7 @@ fn push_all(stack: &mut Vec<TreeId>, ids: &[TreeId]) -> Result<(), AllocError>
     Ok(())
 }
 
-/// What a node of a pattern leaves to visit.
+/// Pushes what a node of a pattern leaves to visit.
 fn push_parts(stack: &mut Vec<TreeId>, node: &TreeNode) -> Result<(), AllocError>
     ensures { IfOk result (λ _. stack.new.items ≡ stack.old.items ++ reverse (parts_left node.now)) }
 {
@@ -127,7 +127,7 @@ fn push_parts(stack: &mut Vec<TreeId>, node: &TreeNode) -> Result<(), AllocError
     }
 }
 
-/// The name that a node of a pattern is.
+/// Pushes the name that a node of a pattern is.
 fn push_name(names: &mut Vec<Defined>, node: &TreeNode) -> Result<(), AllocError>
     ensures { IfOk result (λ _. names.new.items ≡ names.old.items ++ own_names node.now) }
 {

@@ -11,7 +11,7 @@ use fv_num::Op;
 use fv_parse_grammar::{Mark, Primitive, Switch};
 
 impl Reader<'_> {
-    /// What follows `+` in an operand's place.
+    /// Reads what follows `+` in an operand's place.
     pub(crate) fn plus(&mut self, start: usize) -> Result<TreeId, Stop>
         ensures is { Gives self.old self.new result (after_plus start self.old.symbols.rest.now) }
         ensures shorter { OnOk result (length self.new.symbols.rest.now ≤ length self.old.symbols.rest.now) }
@@ -28,7 +28,7 @@ impl Reader<'_> {
         }
     }
 
-    /// What follows `-` in an operand's place.
+    /// Reads what follows `-` in an operand's place.
     pub(crate) fn minus(&mut self, start: usize) -> Result<TreeId, Stop>
         ensures is { Gives self.old self.new result (after_minus start self.old.symbols.rest.now) }
         ensures shorter { OnOk result (length self.new.symbols.rest.now ≤ length self.old.symbols.rest.now) }
@@ -49,7 +49,7 @@ impl Reader<'_> {
         }
     }
 
-    /// What follows `+` in a pattern.
+    /// Reads what follows `+` in a pattern.
     pub(crate) fn plus_in_pattern(&mut self, start: usize) -> Result<TreeId, Stop>
         ensures is { Gives self.old self.new result (plus_number start self.old.symbols.rest.now) }
         ensures shorter { OnOk result (length self.new.symbols.rest.now < length self.old.symbols.rest.now) }
@@ -63,7 +63,7 @@ impl Reader<'_> {
         }
     }
 
-    /// What follows `-` in a pattern.
+    /// Reads what follows `-` in a pattern.
     pub(crate) fn minus_in_pattern(&mut self, start: usize) -> Result<TreeId, Stop>
         ensures is { Gives self.old self.new result (minus_number start self.old.symbols.rest.now) }
         ensures shorter { OnOk result (length self.new.symbols.rest.now < length self.old.symbols.rest.now) }
@@ -77,7 +77,7 @@ impl Reader<'_> {
         }
     }
 
-    /// A waveform, after its word.
+    /// Reads a waveform, after its word.
     #[tactic(auto, unfolding(fv_parse_grammar::specs::Descent::waveform))]
     pub(crate) fn waveform(&mut self, start: usize) -> Result<TreeId, Stop>
         ensures is { Gives self.old self.new result (waveform start self.old.symbols.rest.now) }
@@ -89,7 +89,7 @@ impl Reader<'_> {
         Ok(self.arena.push(TreeNode::Waveform(numbers), start)?)
     }
 
-    /// A button or a checkbox, after its word.
+    /// Reads a button or a checkbox, after its word.
     #[tactic(auto, unfolding(fv_parse_grammar::specs::Descent::switch))]
     pub(crate) fn switch(&mut self, start: usize, kind: Switch) -> Result<TreeId, Stop>
         ensures is { Gives self.old self.new result (switch start kind self.old.symbols.rest.now) }

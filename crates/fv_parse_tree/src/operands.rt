@@ -16,7 +16,7 @@ use fv_lex::Symbol;
 use fv_parse_grammar::{Commas, Inside, Items, Iteration, Mark, Operands, Panel, Side, Slider};
 
 impl<'a> Reader<'a> {
-    /// What follows an open bracket. All recursion goes by here.
+    /// Reads what follows an open bracket. All recursion goes by here.
     #[cycle(parser)]
     pub(crate) fn inside(&mut self, nesting: usize, what: Inside) -> Result<TreeId, Stop>
         ensures is { Gives self.old self.new result (within nesting what self.old.symbols.rest.now) }
@@ -41,7 +41,7 @@ impl<'a> Reader<'a> {
         }
     }
 
-    /// What follows an open bracket, and the bracket that closes it.
+    /// Reads what follows an open bracket, and the bracket that closes it.
     #[cycle(parser)]
     pub(crate) fn enclosed(&mut self, nesting: usize, what: Inside) -> Result<TreeId, Stop>
         ensures is { Gives self.old self.new result (enclosed (within nesting) what self.old.symbols.rest.now) }
@@ -52,7 +52,7 @@ impl<'a> Reader<'a> {
         Ok(tree)
     }
 
-    /// An argument, and the comma after it.
+    /// Reads an argument, and the comma after it.
     #[cycle(parser)]
     fn argument(&mut self, nesting: usize) -> Result<TreeId, Stop>
         ensures is { Gives self.old self.new result (argument (within nesting) self.old.symbols.rest.now) }
@@ -158,7 +158,7 @@ impl<'a> Reader<'a> {
         Ok(self.arena.push(TreeNode::Panel(kind, text, tree), start)?)
     }
 
-    /// An operand, by the first of all its symbols, which was passed.
+    /// Reads an operand, by the first of all its symbols, which was passed.
     #[tactic(auto, unfolding(fv_parse_grammar::specs::Descent::by_first))]
     #[cycle(parser)]
     fn by_first(&mut self, nesting: usize, first: Symbol, all: &'a [Symbol]) -> Result<TreeId, Stop>
@@ -253,7 +253,7 @@ impl<'a> Reader<'a> {
         }
     }
 
-    /// What follows the bracket of an application.
+    /// Reads what follows the bracket of an application.
     #[cycle(parser)]
     fn applied(
         &mut self,
@@ -269,7 +269,7 @@ impl<'a> Reader<'a> {
         Ok(Some(self.arena.push(TreeNode::Apply(tree, arguments), start)?))
     }
 
-    /// What stands in a pattern, by the first of all its symbols, which was passed.
+    /// Reads what stands in a pattern, by the first of all its symbols, which was passed.
     #[cycle(parser)]
     fn atom_by_first(
         &mut self,
@@ -295,7 +295,7 @@ impl<'a> Reader<'a> {
         }
     }
 
-    /// What the operators join.
+    /// Reads what the operators join.
     #[cycle(parser)]
     pub(crate) fn operand(&mut self, nesting: usize, operands: Operands) -> Result<TreeId, Stop>
         ensures is { Gives self.old self.new result (operand (within nesting) operands self.old.symbols.rest.now) }

@@ -36,7 +36,7 @@ fn keep(parts: &mut Vec<TreeId>, found: Option<TreeId>) -> Result<(), AllocError
 }
 
 impl Reader<'_> {
-    /// An expression, and the semicolon after it.
+    /// Reads an expression, and the semicolon after it.
     #[tactic(auto, unfolding(fv_parse_grammar::specs::Descent::ended))]
     #[cycle(parser)]
     fn ended(&mut self, nesting: usize) -> Result<TreeId, Stop>
@@ -182,7 +182,7 @@ impl Reader<'_> {
         }
     }
 
-    /// A list: the part that was read, if any, and any number of further ones. A list has no place of its own.
+    /// Reads a list: the part that was read, if any, and any number of further ones. A list has no place of its own.
     #[cycle(parser)]
     pub(crate) fn further(
         &mut self,
@@ -214,7 +214,7 @@ impl Reader<'_> {
         }
     }
 
-    /// A list that has a part.
+    /// Reads a list that has a part.
     #[tactic(auto, unfolding(fv_parse_grammar::specs::Descent::listed))]
     #[cycle(parser)]
     pub(crate) fn listed(&mut self, nesting: usize, items: Items) -> Result<TreeId, Stop>

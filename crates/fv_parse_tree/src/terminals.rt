@@ -111,7 +111,7 @@ impl Symbols<'_> {
         }
     }
 
-    /// "(" string ","
+    /// Reads: "(" string ","
     #[tactic(auto, unfolding(fv_parse_grammar::specs::Descent::label))]
     pub(crate) fn label(&mut self) -> Result<u64, Stop>
         ensures is { Takes (λ n rest. (n, rest)) self.new result (label self.old.rest.now) }
@@ -123,7 +123,7 @@ impl Symbols<'_> {
         Ok(text)
     }
 
-    /// name {"," name}
+    /// Reads: name {"," name}
     pub(crate) fn names(&mut self, alloc: Global) -> Result<Vec<u64>, Stop>
         ensures is { Takes (λ ns rest. (ns.items, rest)) self.new result (name_list self.old.rest.now) }
         ensures shorter { OnOk result (length self.new.rest.now < length self.old.rest.now) }
@@ -176,7 +176,7 @@ impl Symbols<'_> {
         }
     }
 
-    /// number {"," number}
+    /// Reads: number {"," number}
     pub(crate) fn literals(&mut self, alloc: Global) -> Result<Vec<Literal>, Stop>
         ensures is { Takes (λ xs rest. (xs.items, rest)) self.new result (literal_list self.old.rest.now) }
         ensures shorter { OnOk result (length self.new.rest.now < length self.old.rest.now) }
@@ -212,7 +212,7 @@ impl Symbols<'_> {
         }
     }
 
-    /// What follows "declare".
+    /// Passes what follows "declare".
     pub(crate) fn declaration(&mut self) -> Result<(), Stop>
         ensures is { Takes (λ _ rest. rest) self.new result (declaration self.old.rest.now) }
         ensures shorter { OnOk result (length self.new.rest.now < length self.old.rest.now) }

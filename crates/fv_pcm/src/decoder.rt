@@ -10,7 +10,7 @@ use crate::coding::Coding;
 use byteorder::{BigEndian, ByteOrder, LittleEndian};
 use std::alloc::{AllocError, Global};
 
-/// The samples in the bytes, which have bits / 8 for each place of `to`.
+/// Fills `to` with the samples in the bytes, which have bits / 8 for each place of `to`.
 pub fn decode(coding: Coding, bits: u32, bytes: &[u8], to: &mut [i32])
     requires bits { is_sample_width bits ≡ true }
     requires room { length bytes.now ≡ length to.old * (bits / 8) }

@@ -113,7 +113,7 @@ impl<'a> Cutter<'a> {
         }
     }
 
-    /// The next part, with its cells as they are. There is none exactly where all have been given.
+    /// Gives the next part, with its cells as they are. There is none exactly where all have been given.
     pub fn next(&mut self) -> Option<Part<'a>>
         ensures some { IsSome result ↔ (given_by self.old < length (parts_of self.old)) }
         ensures part { IfSome result (λ p. Gives self.old self.new p) }

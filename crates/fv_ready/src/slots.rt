@@ -13,7 +13,7 @@ use crate::board::Board;
 use crate::seat::{WorkerSeat, place_of, spin};
 
 impl<'t, C: Parcel> Board<'t, C> {
-    // What the slot of an edge holds. It holds something else then.
+    // Exchanges what the slot of an edge holds, and returns what it held.
     fn exchange(&self, seat: &mut WorkerSeat<C>, edge: u64, new: Option<C>) -> Option<C>
         requires name { seat.old.seat.table_id ≡ name_of self.now }
         requires mirror { places (slots_of seat.old) ≡ seat.old.edges.items }
@@ -34,7 +34,7 @@ impl<'t, C: Parcel> Board<'t, C> {
         found
     }
 
-    /// The parcel of an edge into the task in hand. The edge's slot is empty then.
+    /// Takes the parcel of an edge into the task in hand. The edge's slot is empty then.
     pub fn receive(&self, seat: &mut WorkerSeat<C>, edge: u64) -> C
         requires seat { IsSeatOf C.edge_of C.key_of self.now seat.old }
         requires edge { IsSomeAnd (hand_of seat.old) (λ r. 0 < times edge (inward (tasks_of self.now) r.task)) }

@@ -59,7 +59,7 @@ impl<'t, C: Parcel> Board<'t, C> {
         true
     }
 
-    // The start of the task in hand.
+    // Starts the task in hand, and returns the stamp.
     fn start(&self, seat: &mut WorkerSeat<C>, task: u64) -> u64
         requires seat { IsSeatOf C.edge_of C.key_of self.now seat.old }
         requires hand { hand_of seat.old ≡ Some (record { task = task; started = false }) }
@@ -80,7 +80,7 @@ impl<'t, C: Parcel> Board<'t, C> {
         number
     }
 
-    // The finish of the task in hand. The slots of the edges into it go back, and so does that of its exit edge.
+    // Finishes the task in hand, and returns the stamp. The slots of the edges into it go back, and so does that of its exit edge.
     fn finish(&self, seat: &mut WorkerSeat<C>, task: u64) -> u64
         requires seat { IsSeatOf C.edge_of C.key_of self.now seat.old }
         requires hand { hand_of seat.old ≡ Some (record { task = task; started = true }) }
@@ -101,7 +101,7 @@ impl<'t, C: Parcel> Board<'t, C> {
         number
     }
 
-    /// The next stamp: the start of the task in hand, or its finish. At the finish the slots of the edges into the task go back,
+    /// Takes the next stamp: starts the task in hand, or finishes it. At the finish the slots of the edges into the task go back,
     /// and so does that of its exit edge.
     pub fn stamp(&self, seat: &mut WorkerSeat<C>) -> u64
         requires seat { IsSeatOf C.edge_of C.key_of self.now seat.old }
@@ -122,7 +122,8 @@ impl<'t, C: Parcel> Board<'t, C> {
         }
     }
 
-    /// The count of the edge's reader after it. The seat owes the edge no more: its slot goes back with the parcel.
+    /// Arrives at an edge, and returns the count of its reader after that. The seat owes the edge no more: its slot goes back with
+    /// the parcel.
     pub fn arrive(&self, seat: &mut WorkerSeat<C>, edge: u64) -> u64
         requires seat { IsSeatOf C.edge_of C.key_of self.now seat.old }
         requires inner { (net_of (tasks_of self.now)).is_inner edge ≡ true }

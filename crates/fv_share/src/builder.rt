@@ -106,7 +106,7 @@ impl Builder {
         }
     }
 
-    /// The number of a signal, which is put where it is not there.
+    /// Puts a signal where it is not there, and returns its number.
     pub fn node(&mut self, signal: Signal) -> Result<SignalId, AllocError>
         requires { CanPut self.old signal }
         ensures put { IfOk result (λ id. (id, self.new) ≡ put self.old signal) }
@@ -132,7 +132,7 @@ impl Builder {
         }
     }
 
-    /// The number of a table with these numbers, which is kept where it is not there.
+    /// Keeps a table with these numbers where it is not there, and returns its number.
     pub fn table(&mut self, values: &[i32]) -> Result<u64, AllocError>
         ensures put { IfOk result (λ t. (t, self.new) ≡ put_table self.old values.now) }
         ensures there { IfOk result (λ t. table_in self.new t ≡ values.now) }
@@ -178,7 +178,7 @@ impl Builder {
         Ok(())
     }
 
-    /// The number of a new group.
+    /// Opens a new group, and returns its number.
     pub fn group(&mut self) -> Result<u64, AllocError>
         ensures ok { IfOk result (λ g. (g, self.new) ≡ with_group self.old) }
         // It waits for its members, and no Back names it.

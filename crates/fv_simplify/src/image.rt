@@ -14,7 +14,7 @@ use fv_share::Builder;
 use fv_signal::{Graph, Signal, SignalId};
 use std::alloc::AllocError;
 
-/// What is put for the first signal that has no image yet.
+/// Puts the image of the first signal that has none yet, and returns it.
 pub(crate) fn image(
     builder: &mut Builder,
     graph: &Graph,
@@ -55,7 +55,7 @@ pub(crate) fn image(
     }
 }
 
-// An operation over the images of its operands.
+// Puts an operation over the images of its operands.
 fn point(
     builder: &mut Builder,
     images: &[SignalId],

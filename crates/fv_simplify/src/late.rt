@@ -35,7 +35,7 @@ fn is_zero(builder: &Builder, id: SignalId) -> bool
     }
 }
 
-// Signal x `by` samples later.
+// Puts signal x `by` samples later.
 fn late(builder: &mut Builder, x: SignalId, by: u32) -> Result<SignalId, AllocError>
     requires there { x < length builder.old.signals }
     requires small { by < 2 ^ 31 }
@@ -140,7 +140,7 @@ fn taken(
     }
 }
 
-// Signal x `by` samples later. Where x is taken as a delay, its samples are added.
+// Puts signal x `by` samples later. Where x is taken as a delay, its samples are added.
 fn by_number(
     builder: &mut Builder,
     x: SignalId,
@@ -180,7 +180,7 @@ pub fn delayed(
     }
 }
 
-// Signal x as many samples later as d says, where d is no number.
+// Puts signal x as many samples later as d says, where d is no number.
 fn varying(
     builder: &mut Builder,
     x: SignalId,

@@ -14,7 +14,7 @@ use fv_share::Builder;
 use fv_signal::{Signal, SignalId};
 use std::alloc::AllocError;
 
-/// An operation on these signals: a number where all of its operands are, one of them where a number decides that, or itself.
+/// Puts an operation on these signals: a number where all of its operands are, one of them where a number decides that, or itself.
 pub(crate) fn operation(
     builder: &mut Builder,
     op: Op,
@@ -46,7 +46,7 @@ fn folded(builder: &Builder, op: Op, args: [SignalId; 4]) -> Option<i32>
     Some(apply(op, &known[..count]))
 }
 
-// An operation of whose first two operands one may decide which it is.
+// Puts an operation of whose first two operands one may decide which it is.
 fn chosen(builder: &mut Builder, op: Op, args: [SignalId; 4]) -> Result<SignalId, AllocError>
     requires { All (λ a. a < length builder.old.signals) args }
     ensures value { IfOk result (λ id. (id, builder.new)

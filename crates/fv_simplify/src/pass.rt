@@ -56,7 +56,7 @@ fn begin(builder: &mut Builder, graph: &Graph) -> Result<(), AllocError>
     Ok(())
 }
 
-// All signals and the definitions of all groups, in a builder that has begun; the images of the outputs.
+// Puts all signals and the definitions of all groups, in a builder that has begun. Returns the images of the outputs.
 fn fill(
     alloc: Global,
     builder: &mut Builder,
@@ -82,7 +82,7 @@ fn fill(
     Ok(outputs)
 }
 
-// The images of all signals, put one after another.
+// Puts the images of all signals, one after another.
 fn passed(
     alloc: Global,
     builder: &mut Builder,
@@ -104,7 +104,7 @@ fn passed(
     Ok(images)
 }
 
-// The image of the next signal; 0 where it is not marked.
+// Puts the image of the next signal; 0 where it is not marked.
 fn next(
     builder: &mut Builder,
     graph: &Graph,

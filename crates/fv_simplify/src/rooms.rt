@@ -29,7 +29,7 @@ pub(crate) fn rooms(
     Ok(rooms)
 }
 
-// One signal more, which may be a delay.
+// Notes one signal more, which may be a delay.
 fn note(graph: &Graph, rooms: &mut [Option<u32>], s: SignalId)
     requires s { s < length graph.now.signals }
     requires long { length rooms.old ≡ length graph.now.signals }

@@ -38,7 +38,7 @@ fn table_written(node: Signal) -> Option<u64>
 }
 
 impl Cells {
-    // One signal more, with cells of a loop where it writes a table.
+    // Adds one signal more, with cells of a loop where it writes a table.
     fn add(&mut self, table: Option<u64>, owner: u64) -> Result<(), AllocError>
         ensures { OnOk result (AddsCells self.old table owner self.new) }
     {

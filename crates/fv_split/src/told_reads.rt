@@ -27,7 +27,7 @@ fn was_told(last: Option<u64>, reader: u64) -> bool
 }
 
 impl ToldReads {
-    // A loop reads a loop, which is told once, and where they differ.
+    // Notes that a loop reads another one. Each such pair is told once.
     fn tell(&mut self, reader: u64, source: u64) -> Result<(), AllocError>
         requires { source < length self.old.last.items }
         ensures { OnOk result (view_of self.new ≡ with_read reader source (view_of self.old)) }
@@ -40,7 +40,7 @@ impl ToldReads {
         Ok(())
     }
 
-    // What a step of a loop's code reads.
+    // Notes what a step of a loop's code reads.
     fn step(&mut self, owners: &[u64], reader: u64, step: Step) -> Result<(), AllocError>
         requires lane { LoadsAmong (length owners.now) step }
         requires owners { All (λ j. j < length self.old.last.items) owners.now }
@@ -62,7 +62,7 @@ impl ToldReads {
         }
     }
 
-    // What a loop's code reads.
+    // Notes what a loop's code reads.
     fn steps(&mut self, owners: &[u64], reader: u64, steps: &[Step]) -> Result<(), AllocError>
         requires lanes { All (λ s. LoadsAmong (length owners.now) s) steps.now }
         requires owners { All (λ j. j < length self.old.last.items) owners.now }

@@ -79,7 +79,7 @@ impl Emitter<'_> {
         )
     }
 
-    // An operation.
+    // Adds the step of an operation.
     fn point(&self, code: &mut Vec<Step>, op: Op, args: [SignalId; 4]) -> Result<u64, AllocError>
         requires survey { IsSurvey (length self.now.registers.now) self.now.survey.now }
         requires args { All (λ a. a < length self.now.registers.now) args }
@@ -99,7 +99,7 @@ impl Emitter<'_> {
         push(code, Step::Point { op, args: found })
     }
 
-    // A delay that never goes back.
+    // Adds the steps of a delay that never goes back.
     fn still(&self, code: &mut Vec<Step>, x: SignalId, d: SignalId) -> Result<u64, AllocError>
         requires survey { IsSurvey (length self.now.registers.now) self.now.survey.now }
         requires x { x < length self.now.registers.now }
@@ -115,7 +115,7 @@ impl Emitter<'_> {
         )
     }
 
-    // A delay that may go back.
+    // Adds the steps of a delay that may go back.
     fn delayed(
         &self,
         code: &mut Vec<Step>,
@@ -143,7 +143,7 @@ impl Emitter<'_> {
         )
     }
 
-    // An item of a table.
+    // Adds the step of an item of a table.
     fn read(&self, code: &mut Vec<Step>, table: u64, r: SignalId) -> Result<u64, AllocError>
         requires survey { IsSurvey (length self.now.registers.now) self.now.survey.now }
         requires r { r < length self.now.registers.now }
@@ -153,7 +153,8 @@ impl Emitter<'_> {
         push(code, Step::Read { table, arg })
     }
 
-    // A table that is written and then read, which is signal s. Its operands are where and what is written, and where it is read.
+    // Adds the step of a table that is written and then read, which is signal s. Its operands are where and what is written, and
+    // where it is read.
     fn written(
         &self,
         code: &mut Vec<Step>,
@@ -186,7 +187,7 @@ impl Emitter<'_> {
         )
     }
 
-    // An operation, a delay or a table.
+    // Adds the steps of an operation, a delay or a table.
     fn computed(&self, code: &mut Vec<Step>, s: u64, node: Signal) -> Result<u64, AllocError>
         requires survey { IsSurvey (length self.now.registers.now) self.now.survey.now }
         requires operands { OperandsWithin (length self.now.registers.now) node }
@@ -212,7 +213,7 @@ impl Emitter<'_> {
         }
     }
 
-    // A signal's own step.
+    // Adds a signal's own step.
     fn own_step(&self, code: &mut Vec<Step>, s: u64, node: Signal) -> Result<u64, AllocError>
         requires survey { IsSurvey (length self.now.registers.now) self.now.survey.now }
         requires operands { OperandsWithin (length self.now.registers.now) node }
@@ -246,7 +247,7 @@ fn append(code: &mut Vec<Step>, lane: Option<u64>, register: u64) -> Result<(), 
     }
 }
 
-// One signal more.
+// Adds the steps of one signal more.
 fn add(
     code: &mut Vec<Step>,
     registers: &mut Vec<u64>,

@@ -65,7 +65,7 @@ fn held_step(node: Signal, numbers: &[u64]) -> Step
     }
 }
 
-// One held value more.
+// Adds one held value more.
 fn hold(
     steps: &mut Vec<Step>,
     numbers: &mut Vec<u64>,
@@ -83,7 +83,7 @@ fn hold(
     Ok(())
 }
 
-// One signal more, where it is a held value.
+// Adds one signal more, where it is a held value.
 fn hold_if(
     steps: &mut Vec<Step>,
     numbers: &mut Vec<u64>,

@@ -8,7 +8,7 @@ use crate::kind::Kind;
 use fv_loopcode::Step;
 use std::alloc::AllocError;
 
-// One step more, and its register.
+// Adds a step and returns its register.
 pub(crate) fn push(code: &mut Vec<Step>, step: Step) -> Result<u64, AllocError>
     ensures { IfOk result (λ w. (w ≡ length code.old.items) × (code.new.items ≡ code.old.items ++ step ∷ [])) }
 {
@@ -17,7 +17,7 @@ pub(crate) fn push(code: &mut Vec<Step>, step: Step) -> Result<u64, AllocError>
     Ok(register)
 }
 
-// The value of a lane of another loop now.
+// Adds the load of a lane of another loop, as it is now.
 fn lane_now(code: &mut Vec<Step>, lane: u64) -> Result<u64, AllocError>
     ensures { IfOk result (λ w. (w ≡ length code.old.items + 1)
         × (code.new.items ≡ (code.old.items ++ step.Number (pos 0) ∷ []) ++ step.Load lane (length code.old.items) 0 ∷ [])) }
@@ -26,7 +26,7 @@ fn lane_now(code: &mut Vec<Step>, lane: u64) -> Result<u64, AllocError>
     push(code, Step::Load { lane, back, max: 0 })
 }
 
-// The value of a lane one sample ago.
+// Adds the load of a lane, one sample ago.
 fn lane_ago(code: &mut Vec<Step>, lane: u64) -> Result<u64, AllocError>
     ensures { IfOk result (λ w. (w ≡ length code.old.items + 1)
         × (code.new.items ≡ (code.old.items ++ step.Number (pos 1) ∷ []) ++ step.Load lane (length code.old.items) 1 ∷ [])) }
@@ -35,7 +35,7 @@ fn lane_ago(code: &mut Vec<Step>, lane: u64) -> Result<u64, AllocError>
     push(code, Step::Load { lane, back, max: 1 })
 }
 
-// The register of an operand, whose steps are added where it has none.
+// Returns the register of an operand; adds its steps where it has none.
 pub(crate) fn operand(
     code: &mut Vec<Step>,
     kind: Kind,
@@ -64,7 +64,7 @@ pub(crate) fn operand(
     }
 }
 
-// The registers of up to four operands.
+// Returns the registers of up to four operands; adds their steps where they have none.
 pub(crate) fn operands(
     code: &mut Vec<Step>,
     kinds: &[Kind],

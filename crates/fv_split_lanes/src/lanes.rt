@@ -45,7 +45,7 @@ pub struct Numbering {
 }
 
 impl Numbering {
-    // One signal more, which has a lane of a loop or none.
+    // Adds one signal more, which has a lane of a loop or none.
     fn add(
         &mut self,
         signal: SignalId,

@@ -27,7 +27,7 @@ fn met_by(reader: Reader, r: u64) -> Reader
     }
 }
 
-// The signals of a row have this reader.
+// Notes that the signals of a row have this reader.
 fn meet_row(readers: &mut Vec<Reader>, row: &[u64], r: u64)
     requires { All (λ s. s < length readers.old.items) row.now }
     ensures { readers.new.items ≡ with_row readers.old.items row.now r }

@@ -45,7 +45,7 @@ fn stood(stands: &[SignalId], args: [SignalId; 4]) -> [u64; 4]
     ]
 }
 
-// One row more: what a node leads to.
+// Adds a row: what a node leads to.
 fn add_links(rows: &mut Rows, graph: &Graph, node: Signal) -> Result<(), AllocError>
     requires { NamesWithin graph.now node }
     ensures { OnOk result (rows.new ≡ rows.old ++ found_from graph.now node ∷ []) }
@@ -63,7 +63,7 @@ fn add_links(rows: &mut Rows, graph: &Graph, node: Signal) -> Result<(), AllocEr
     }
 }
 
-// One row more: what a node reads.
+// Adds a row: what a node reads.
 fn add_reads(rows: &mut Rows, stands: &[SignalId], node: Signal) -> Result<(), AllocError>
     requires { OperandsWithin (length stands.now) node }
     ensures { OnOk result (rows.new ≡ rows.old ++ map (at stands.now) (operands_of node) ∷ []) }

@@ -75,8 +75,8 @@ pub fn run_crew<
     Ok(exits)
 }
 
-/// Has a crew run all tasks of its board, makes its lines the journal, and closes the board: the parcels of the exit edges. `seats`
-/// has room for the crew's seats, and `exits` for those parcels.
+/// Has a crew run all tasks of its board, makes its lines the journal, and closes the board. Returns the parcels of the exit edges.
+/// `seats` has room for the crew's seats, and `exits` for those parcels.
 fn work_board<R: Threads + Wait + Sync, C: Parcel + Send + Drop, B: Body<C> + Sync, G: Gate + Sync>(
     rt: &R,
     tasks: &Tasks,

@@ -20,7 +20,7 @@ impl TaskDeque {
         Ok(TaskDeque { worker, room })
     }
 
-    /// A hold on this deque for another worker. Want of memory leaves the deque as it was.
+    /// Gives out a hold on this deque for another worker. Want of memory leaves the deque as it was.
     pub fn lend(&mut self) -> Result<Victim, AllocError>
         ensures room { room_of self.new ≡ room_of self.old }
         ensures place { lies_at self.new ≡ lies_at self.old }

@@ -28,7 +28,7 @@ pub(crate) fn empty_deques(
     Ok(deques)
 }
 
-// A task goes to the back of a worker's deque.
+// Puts a task at the back of a worker's deque.
 fn put_in(deques: &mut Vec<TaskDeque>, w: usize, task: u64)
     requires there { w < vec_len deques.old }
     requires below { All (λ d. task < room_of d) deques.old.items }
@@ -40,7 +40,7 @@ fn put_in(deques: &mut Vec<TaskDeque>, w: usize, task: u64)
     deques[w].push(task);
 }
 
-// A task goes to the deque of a worker if it waits for none. The worker whose turn it is then.
+// Deals a task to the deque of a worker if it waits for none. Returns the worker whose turn it is then.
 fn deal_one(deques: &mut Vec<TaskDeque>, worker: usize, task: u64, count: u64) -> usize
     requires there { worker < vec_len deques.old }
     requires below { All (λ d. task < room_of d) deques.old.items }
@@ -59,7 +59,7 @@ fn deal_one(deques: &mut Vec<TaskDeque>, worker: usize, task: u64, count: u64) -
     (worker + 1) % deques.len()
 }
 
-// The tasks that read no other go to the deques in turn.
+// Deals the tasks that read no other to the deques in turn.
 pub(crate) fn deal(tasks: &Tasks, deques: &mut Vec<TaskDeque>)
     requires some { 0 < vec_len deques.old }
     requires empty { puts_of deques.old.items ≡ replicate (vec_len deques.old) [] }
@@ -74,7 +74,7 @@ pub(crate) fn deal(tasks: &Tasks, deques: &mut Vec<TaskDeque>)
     }
 }
 
-// A hold on each deque, for one worker.
+// Gives out a hold on each deque, for one worker.
 pub(crate) fn holds_on_all(
     alloc: Global,
     deques: &mut Vec<TaskDeque>,

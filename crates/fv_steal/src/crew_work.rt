@@ -28,7 +28,7 @@ use std::thread::Threads;
 // How often a worker that found nothing goes round the others' deques before it leaves.
 const ROUNDS: u32 = 64;
 
-/// The first number of the deque at a place.
+/// Takes the first number of the deque at a place.
 fn first_at(victims: &mut Vec<Victim>, i: usize) -> Option<u64>
     requires there { i < vec_len victims.old }
     ensures { HasStolen result victims.old victims.new }
@@ -36,7 +36,7 @@ fn first_at(victims: &mut Vec<Victim>, i: usize) -> Option<u64>
     victims[i].steal()
 }
 
-/// The first number of the deque at a place, if it is not the worker's own.
+/// Takes the first number of the deque at a place, if it is not the worker's own.
 fn steal_from(victims: &mut Vec<Victim>, i: usize, own: u64) -> Option<u64>
     requires there { i < vec_len victims.old }
     ensures { HasStolen result victims.old victims.new }
@@ -47,7 +47,7 @@ fn steal_from(victims: &mut Vec<Victim>, i: usize, own: u64) -> Option<u64>
     first_at(victims, i)
 }
 
-/// The first number of the worker's own deque.
+/// Takes the first number of the worker's own deque.
 fn first_of_own(victims: &mut Vec<Victim>, own: usize) -> Option<u64>
     ensures { HasStolen result victims.old victims.new }
 {
@@ -70,7 +70,7 @@ fn steal_round(victims: &mut Vec<Victim>, own: u64) -> Option<u64>
     None
 }
 
-/// A number of another worker's, if there is one in some of the rounds.
+/// Takes a number of another worker's, if there is one in some of the rounds.
 fn steal(victims: &mut Vec<Victim>, own: u64) -> Option<u64>
     ensures { HasStolen result victims.old victims.new }
 {
@@ -83,7 +83,7 @@ fn steal(victims: &mut Vec<Victim>, own: u64) -> Option<u64>
     None
 }
 
-/// The last number of the worker's own deque, or else one of another's.
+/// Takes the last number of the worker's own deque, or else one of another's.
 fn last_or_stolen<C>(worker: &mut Worker<C>) -> Option<u64>
     ensures found { MatchOption result ((x : ℕ) → took worker.new x ≡ took worker.old x) (λ t. (x : ℕ) → took worker.new x ≡ took worker.old x + bit (t == x)) }
     ensures same { IsSame worker.old worker.new }
@@ -96,9 +96,9 @@ fn last_or_stolen<C>(worker: &mut Worker<C>) -> Option<u64>
     steal(&mut worker.victims, u64::from(worker.number))
 }
 
-/// A number to run next: the first of the worker's own deque. So the vectors of all loops go side by side, and what reads a vector
-/// of them all need not wait for the last one. Where another worker took that number at the same time, it is the last one, or else
-/// one of another's.
+/// Takes a number to run next: the first of the worker's own deque. So the vectors of all loops go side by side, and what reads a
+/// vector of them all need not wait for the last one. Where another worker took that number at the same time, it is the last one,
+/// or else one of another's.
 fn find<C>(worker: &mut Worker<C>) -> Option<u64>
     ensures found { MatchOption result ((x : ℕ) → took worker.new x ≡ took worker.old x) (λ t. (x : ℕ) → took worker.new x ≡ took worker.old x + bit (t == x)) }
     ensures same { IsSame worker.old worker.new }
@@ -111,7 +111,7 @@ fn find<C>(worker: &mut Worker<C>) -> Option<u64>
     last_or_stolen(worker)
 }
 
-/// A worker's turns, until it finds nothing any more.
+/// Does a worker's turns, until it finds nothing any more.
 fn live<R: Wait, C: Parcel + Drop, B: Body<C>, G: Gate>(
     rt: &R,
     tasks: &Tasks,
@@ -134,7 +134,7 @@ fn live<R: Wait, C: Parcel + Drop, B: Body<C>, G: Gate>(
     unreachable!()
 }
 
-/// The turns that are left of a worker, until its deque is empty.
+/// Does the turns that are left of a worker, until its deque is empty.
 fn drain<R: Wait, C: Parcel + Drop, B: Body<C>, G: Gate>(
     rt: &R,
     tasks: &Tasks,
@@ -159,7 +159,7 @@ fn drain<R: Wait, C: Parcel + Drop, B: Body<C>, G: Gate>(
     unreachable!()
 }
 
-/// All workers live side by side, until none of them finds anything any more.
+/// Has all workers live side by side, until none of them finds anything any more.
 fn live_all<R: Threads + Wait + Sync, C: Parcel + Send + Drop, B: Body<C> + Sync, G: Gate + Sync>(
     rt: &R,
     tasks: &Tasks,
@@ -183,7 +183,7 @@ fn live_all<R: Threads + Wait + Sync, C: Parcel + Send + Drop, B: Body<C> + Sync
     );
 }
 
-/// The turns that are left of all workers.
+/// Does the turns that are left of all workers.
 fn drain_all<R: Wait, C: Parcel + Drop, B: Body<C>, G: Gate>(
     rt: &R,
     tasks: &Tasks,

@@ -45,7 +45,7 @@ pub(crate) fn look<R: Wait, C: Parcel>(
     unreachable!()
 }
 
-/// The parcels of the edges into the task in hand, in order.
+/// Takes the parcels of the edges into the task in hand, in order.
 pub(crate) fn receive_all<C: Parcel>(
     tasks: &Tasks,
     board: &Board<'_, C>,

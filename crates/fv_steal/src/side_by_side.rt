@@ -23,7 +23,7 @@ pub(crate) fn for_each_mut<R: Threads + Sync, T: Send, F: Fn(usize, &mut T) + Sy
     }
 }
 
-/// The calls at the places of `s`, which begins at place `from` of the whole.
+/// Makes the calls at the places of `s`, which begins at place `from` of the whole.
 #[cycle(places)]
 fn each_from<R: Threads + Sync, T: Send, F: Fn(usize, &mut T) + Sync>(
     rt: &R,
@@ -43,7 +43,7 @@ fn each_from<R: Threads + Sync, T: Send, F: Fn(usize, &mut T) + Sync>(
     both(rt, f, from, one, from + 1, others);
 }
 
-/// The calls at one place, in a thread of its own, and at the others, which the caller's thread starts.
+/// Makes the call at one place in a thread of its own, and those at the others, which the caller's thread starts.
 #[cycle(places)]
 fn both<R: Threads + Sync, T: Send, F: Fn(usize, &mut T) + Sync>(
     rt: &R,
@@ -70,7 +70,7 @@ fn both<R: Threads + Sync, T: Send, F: Fn(usize, &mut T) + Sync>(
     join_mut(rt, &mut theirs, &mut ours);
 }
 
-/// The call at one place.
+/// Makes the call at one place.
 fn at_one<T, F: Fn(usize, &mut T)>(f: &F, i: usize, it: &mut T)
     requires { AcceptsAt F.Fn f.now i it.old }
     ensures { ChangesAt F.Fn f.now i it.old it.new }

@@ -31,7 +31,7 @@ fn refuse<D: Desk>(desk: &mut D, refusal: &Refusal)
     let _ = report_refusal(desk, refusal);
 }
 
-// What the words ask for, one stage after another.
+// Does what the words ask for, one stage after another.
 fn perform<R: Threads + Wait + Sync, D: Desk, G: Gate + Sync>(
     rt: &R,
     alloc: Global,

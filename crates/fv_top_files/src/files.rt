@@ -9,7 +9,7 @@ use fv_outside::{Desk, ReadError, Role, read_up_to};
 use fv_top_report::Refusal;
 use std::alloc::Global;
 
-/// The first `count` bytes of the file of this name, or all of them where it has fewer.
+/// Reads the first `count` bytes of the file of this name, or all of them where it has fewer.
 #[tactic(auto, using(fv_outside::proofs::lemmas::States::steps, crate::proofs::lemmas::Loads::reading))]
 pub fn read_front<D: Desk>(
     alloc: Global,

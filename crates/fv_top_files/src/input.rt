@@ -68,7 +68,7 @@ pub fn load_head<D: Desk>(
     Ok(loaded)
 }
 
-// The head of the file that was begun, of this kind.
+// Reads the head of the file that was begun, of this kind.
 #[tactic(auto, using(fv_outside::proofs::lemmas::States::steps))]
 fn load_file<D: Desk>(alloc: Global, desk: &mut D, kind: InputKind) -> Result<Loaded, Refusal>
     ensures takes { TakesSome Input (D.state desk.old) (D.state desk.new) }
@@ -86,7 +86,7 @@ fn load_file<D: Desk>(alloc: Global, desk: &mut D, kind: InputKind) -> Result<Lo
     }
 }
 
-// The head of a file that is AU where its first four bytes say so, else WAV.
+// Reads the head of a file that is AU where its first four bytes say so, else WAV.
 #[tactic(auto, using(fv_outside::proofs::lemmas::States::steps))]
 fn load_either<D: Desk>(alloc: Global, desk: &mut D) -> Result<Loaded, Refusal>
     ensures takes { TakesSome Input (D.state desk.old) (D.state desk.new) }
@@ -112,7 +112,7 @@ fn load_either<D: Desk>(alloc: Global, desk: &mut D) -> Result<Loaded, Refusal>
     }
 }
 
-// The head of a WAV file that begins with these bytes, which were taken.
+// Reads the head of a WAV file that begins with these bytes, which were taken.
 #[tactic(auto, using(fv_outside::proofs::lemmas::States::steps))]
 fn load_wave<D: Desk>(desk: &mut D, begun: &[u8]) -> Result<Loaded, Refusal>
     requires { length begun.now ≤ 4 }
@@ -134,7 +134,7 @@ fn load_wave<D: Desk>(desk: &mut D, begun: &[u8]) -> Result<Loaded, Refusal>
     })
 }
 
-// The head of an AU file that begins with these bytes, which were taken.
+// Reads the head of an AU file that begins with these bytes, which were taken.
 #[tactic(auto, using(fv_outside::proofs::lemmas::States::steps))]
 fn load_au<D: Desk>(alloc: Global, desk: &mut D, begun: &[u8]) -> Result<Loaded, Refusal>
     requires few { length begun.now ≤ 4 }

@@ -65,7 +65,7 @@ impl Tape<Noise> for NoiseTape {
     }
 }
 
-// The next samples of the noise.
+// Fills with the next samples of the noise.
 fn sound(noise: &mut Noise, to: &mut [i32])
     ensures heard { to.new ≡ noise_behind noise.old.state (length to.old) }
     ensures state { noise.new.state ≡ state_behind noise.old.state (length to.old) }
@@ -81,7 +81,7 @@ fn sound(noise: &mut Noise, to: &mut [i32])
     noise.state = state;
 }
 
-// These samples are added to the sum.
+// Adds these samples to the sum.
 fn give(noise: &mut Noise, samples: &[i32])
     ensures state { noise.new.state ≡ noise.old.state }
     ensures sum { noise.new.sum ≡ sum_from noise.old.sum samples.now }

@@ -115,7 +115,7 @@ pub fn report_refusal<D: Desk>(desk: &mut D, refusal: &Refusal) -> Result<(), Fa
     Ok(())
 }
 
-// The line up to the name.
+// Writes the line up to the name.
 #[tactic(auto, using(fv_outside::proofs::lemmas::States::steps))]
 fn write_front<D: Desk>(desk: &mut D, number: u32, name: &str) -> Result<(), Failed>
     ensures ok { OnOk result (Appends Report (codes "refused " ++ decimal number ++ codes " " ++ name.now) (D.state desk.old) (D.state desk.new)) }
@@ -136,7 +136,7 @@ fn write_front<D: Desk>(desk: &mut D, number: u32, name: &str) -> Result<(), Fai
     )
 }
 
-// Each field, one space before it.
+// Writes each field, one space before it.
 fn write_fields<D: Desk>(desk: &mut D, fields: &Fields<'_>) -> Result<(), Failed>
     ensures ok { OnOk result (Appends Report (spaced (listed fields.now)) (D.state desk.old) (D.state desk.new)) }
     ensures err { OnErr result (AppendsPart Report (spaced (listed fields.now)) (D.state desk.old) (D.state desk.new)) }
@@ -187,7 +187,7 @@ fn write_three<D: Desk>(
     Ok(())
 }
 
-// A field, one space before it.
+// Writes a field, one space before it.
 fn write_field<D: Desk>(desk: &mut D, field: &Field<'_>) -> Result<(), Failed>
     ensures ok { OnOk result (Appends Report (codes " " ++ printed field.now) (D.state desk.old) (D.state desk.new)) }
     ensures err { OnErr result (AppendsPart Report (codes " " ++ printed field.now) (D.state desk.old) (D.state desk.new)) }
@@ -218,7 +218,7 @@ fn write_integer<D: Desk>(desk: &mut D, n: i32) -> Result<(), Failed>
     write_word(desk, buffer.format(n).as_bytes())
 }
 
-// Some bytes, one space before them.
+// Writes some bytes, one space before them.
 #[tactic(auto, using(fv_outside::proofs::lemmas::States::steps))]
 fn write_word<D: Desk>(desk: &mut D, bytes: &[u8]) -> Result<(), Failed>
     ensures ok { OnOk result (Appends Report (codes " " ++ bytes.now) (D.state desk.old) (D.state desk.new)) }

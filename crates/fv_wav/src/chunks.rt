@@ -48,7 +48,7 @@ fn kind_of(name: &[u8]) -> Kind
     }
 }
 
-/// The head of the file whose bytes are left of the input. After the call its samples are left next.
+/// Reads the head of the file whose bytes are left of the input. After the call its samples are left next.
 pub fn read_head<D: Desk>(desk: &mut D) -> Result<Head, WaveRefusal>
     ensures head { IfOk result (λ head. IsTrue (D.state desk.old).tells → wave ((D.state desk.old).left Input) ≡ Ok head) }
     ensures taken { IfOk result (λ head. (bytes : List ℕ) × (length bytes ≡ head.place) × Takes Input bytes (D.state desk.old) (D.state desk.new)) }
@@ -60,8 +60,8 @@ pub fn read_head<D: Desk>(desk: &mut D) -> Result<Head, WaveRefusal>
     read_head_behind(desk, &[])
 }
 
-/// The head of the file that begins with the bytes `begun`, which were taken already. It goes on with what is left of the input;
-/// after the call its samples are left next.
+/// Reads the head of the file that begins with the bytes `begun`, which were taken already. It goes on with what is left of the
+/// input; after the call its samples are left next.
 pub fn read_head_behind<D: Desk>(desk: &mut D, begun: &[u8]) -> Result<Head, WaveRefusal>
     requires { length begun.now ≤ 12 }
     ensures head { IfOk result (λ head. IsTrue (D.state desk.old).tells → wave (begun.now ++ (D.state desk.old).left Input) ≡ Ok head) }
@@ -86,7 +86,7 @@ pub fn read_head_behind<D: Desk>(desk: &mut D, begun: &[u8]) -> Result<Head, Wav
     }
 }
 
-// The first twelve bytes, which begin with these.
+// Reads the first twelve bytes, which begin with these.
 fn read_form<D: Desk>(desk: &mut D, begun: &[u8]) -> Result<(), WaveRefusal>
     requires { length begun.now ≤ 12 }
     ensures ok { IfOk result (λ _. Passes (12 - length begun.now)
@@ -112,7 +112,7 @@ fn is_form(form: &[u8]) -> bool
     &form[..4] == b"RIFF".as_slice() && &form[8..] == b"WAVE".as_slice()
 }
 
-// The next chunk.
+// Reads the next chunk.
 fn next_chunk<D: Desk>(desk: &mut D, walk: Walk) -> Result<NextChunk, WaveRefusal>
     requires place { walk.place < 2 ^ 59 }
     requires seen { IfSome walk.seen IsFormat }
@@ -128,7 +128,7 @@ fn next_chunk<D: Desk>(desk: &mut D, walk: Walk) -> Result<NextChunk, WaveRefusa
     }
 }
 
-// A `data` chunk, after its name.
+// Reads a `data` chunk, after its name.
 fn read_data<D: Desk>(desk: &mut D, walk: Walk) -> Result<NextChunk, WaveRefusal>
     requires place { walk.place < 2 ^ 59 }
     requires seen { IfSome walk.seen IsFormat }
@@ -141,7 +141,7 @@ fn read_data<D: Desk>(desk: &mut D, walk: Walk) -> Result<NextChunk, WaveRefusal
     }
 }
 
-// A `data` chunk after this format, after its name.
+// Reads a `data` chunk after this format, after its name.
 fn read_samples<D: Desk>(desk: &mut D, walk: Walk, format: Format) -> Result<NextChunk, WaveRefusal>
     requires place { walk.place < 2 ^ 59 }
     requires seen { walk.seen ≡ Some format }
@@ -164,7 +164,7 @@ fn read_samples<D: Desk>(desk: &mut D, walk: Walk, format: Format) -> Result<Nex
     }))
 }
 
-// A `fmt ` chunk, after its name.
+// Reads a `fmt ` chunk, after its name.
 fn see_format<D: Desk>(desk: &mut D, walk: Walk) -> Result<NextChunk, WaveRefusal>
     requires place { walk.place < 2 ^ 59 }
     requires seen { IfSome walk.seen IsFormat }
@@ -177,7 +177,7 @@ fn see_format<D: Desk>(desk: &mut D, walk: Walk) -> Result<NextChunk, WaveRefusa
     }
 }
 
-// The first `fmt ` chunk, after its name.
+// Reads the first `fmt ` chunk, after its name.
 fn first_format<D: Desk>(desk: &mut D, walk: Walk) -> Result<NextChunk, WaveRefusal>
     requires place { walk.place < 2 ^ 59 }
     requires seen { walk.seen ≡ None }
@@ -195,7 +195,7 @@ fn first_format<D: Desk>(desk: &mut D, walk: Walk) -> Result<NextChunk, WaveRefu
     }))
 }
 
-// A chunk that is passed over, after its name.
+// Passes over a chunk, after its name.
 fn pass_other<D: Desk>(desk: &mut D, walk: Walk) -> Result<NextChunk, WaveRefusal>
     requires place { walk.place < 2 ^ 59 }
     requires seen { IfSome walk.seen IsFormat }

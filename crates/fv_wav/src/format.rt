@@ -23,7 +23,7 @@ const EXTENSIBLE: u16 = 65534;
 /// The sub-format of plain samples.
 const PLAIN_SAMPLES: [u8; 16] = [1, 0, 0, 0, 0, 0, 16, 0, 128, 0, 0, 170, 0, 56, 155, 113];
 
-// The tag of a format of this size, whose body begins here.
+// Reads the tag of a format of this size, whose body begins here.
 #[tactic(auto, unfolding(crate::specs::headline::Reading::tag_at))]
 fn read_tag<D: Desk>(desk: &mut D, place: u64, size: u32) -> Result<u16, WaveRefusal>
     requires low { 4 ≤ place }
@@ -47,7 +47,7 @@ fn read_tag<D: Desk>(desk: &mut D, place: u64, size: u32) -> Result<u16, WaveRef
     Ok(tag)
 }
 
-// The fields after the tag.
+// Reads the fields after the tag.
 fn read_sound<D: Desk>(desk: &mut D, place: u64) -> Result<Format, WaveRefusal>
     requires { place < 2 ^ 62 }
     ensures ok { IfOk result (λ format. Passes 14
@@ -69,7 +69,7 @@ fn read_sound<D: Desk>(desk: &mut D, place: u64) -> Result<Format, WaveRefusal>
     })
 }
 
-// The fields after the rate: the bits of a sample.
+// Reads the fields after the rate: the bits of a sample.
 fn read_shape<D: Desk>(desk: &mut D, place: u64, channels: u16) -> Result<u16, WaveRefusal>
     requires place { place < 2 ^ 63 }
     requires channels { channels ≤ MOST_CHANNELS }
@@ -106,7 +106,7 @@ fn is_width(bits: u16) -> bool
     bits == 8 || bits == 16 || bits == 24 || bits == 32
 }
 
-// What only an extensible format has.
+// Reads what only an extensible format has.
 fn read_extension<D: Desk>(desk: &mut D, place: u64) -> Result<(), WaveRefusal>
     requires { place < 2 ^ 62 }
     ensures ok { IfOk result (λ _. Passes 24
@@ -130,7 +130,7 @@ fn is_plain(sub: &[u8]) -> bool
     sub == PLAIN_SAMPLES.as_slice()
 }
 
-// The body of a `fmt ` chunk of this size, up to the last field that is needed: the format, and how many bytes that is.
+// Reads the body of a `fmt ` chunk of this size, up to the last field that is needed: the format, and how many bytes that is.
 fn read_fields<D: Desk>(desk: &mut D, place: u64, size: u32) -> Result<(Format, u64), WaveRefusal>
     requires low { 4 ≤ place }
     requires high { place < 2 ^ 61 }
@@ -150,7 +150,7 @@ fn read_fields<D: Desk>(desk: &mut D, place: u64, size: u32) -> Result<(Format, 
     Ok((format, 40))
 }
 
-/// A `fmt ` chunk, after its name: the format, and the place after the chunk.
+/// Reads a `fmt ` chunk, after its name: the format, and the place after the chunk.
 pub fn read_format<D: Desk>(desk: &mut D, place: u64) -> Result<(Format, u64), WaveRefusal>
     requires { place < 2 ^ 60 }
     ensures ok { IfOk result (λ x. (n : ℕ) × (n ≤ 2 ^ 32 + 4) × (x.1 ≡ place + n) × Passes n

@@ -61,7 +61,7 @@ fn read_samples<D: Desk>(
     Ok(())
 }
 
-/// The samples in the bytes, which have bits / 8 for each place of `to`.
+/// Fills `to` with the samples in the bytes, which have bits / 8 for each place of `to`.
 pub fn decode(bits: u32, bytes: &[u8], to: &mut [i32])
     requires bits { is_sample_width bits ≡ true }
     requires room { length bytes.now ≡ length to.old * (bits / 8) }

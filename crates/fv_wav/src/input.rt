@@ -44,7 +44,7 @@ pub fn pass<D: Desk>(desk: &mut D, place: u64, count: u64) -> Result<(), WaveRef
     Ok(())
 }
 
-/// The number in the next two bytes.
+/// Reads the number in the next two bytes.
 #[tactic(auto, unfolding(crate::specs::headline::Reading::number, crate::specs::headline::Reading::next, crate::specs::headline::Reading::past))]
 pub fn read_u16<D: Desk>(desk: &mut D, place: u64) -> Result<u16, WaveRefusal>
     requires { place + 2 < 2 ^ 64 }
@@ -58,7 +58,7 @@ pub fn read_u16<D: Desk>(desk: &mut D, place: u64) -> Result<u16, WaveRefusal>
     Ok(LittleEndian::read_u16(&bytes))
 }
 
-/// The number in the next four bytes.
+/// Reads the number in the next four bytes.
 #[tactic(auto, unfolding(crate::specs::headline::Reading::number, crate::specs::headline::Reading::next, crate::specs::headline::Reading::past))]
 pub fn read_u32<D: Desk>(desk: &mut D, place: u64) -> Result<u32, WaveRefusal>
     requires { place + 4 < 2 ^ 64 }
