@@ -1,3 +1,4 @@
 pub mod headline
 pub mod inner
 pub mod Lists
+pub mod HeadLaws

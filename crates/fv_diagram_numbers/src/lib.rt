@@ -4,10 +4,12 @@
 
 mod fixed;
 mod head;
+mod laws;
 mod number;
 mod table_numbers;
 mod timeless;
 
 pub use head::{Pieces, head_and_rest, is_head};
+pub use laws::{cuts_are_fewest, fixed_depends_on_nothing};
 pub use number::number_of;
 pub use table_numbers::{first_of, numbers};
