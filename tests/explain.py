@@ -2,6 +2,7 @@
 interpreter beside it, and knows of each diagram the forms that made it.
 
 `explanation(file)` gives the lines for the bytes of a file, and whether it is accepted."""
+import bisect
 import collections
 import re
 import unicodedata
@@ -24,27 +25,41 @@ UNREADABLE = (4, 5, 6, 7, 8, 9, 10, 43)
 
 class Source:
     """The lines of a text, and where they come from: a job's first line is a later one of its file, and the lines after a
-    comment `// from library/NAME.dsp:LINE` are those of that file."""
+    comment `// from library/NAME.dsp:LINE` are those of that file. It says too whether their numbers are meant to wrap, or to
+    come to 0."""
 
-    FROM = re.compile(r"// from (\S+):([0-9]{1,9})\r?")
+    FROM = re.compile(r"// from (\S+):([0-9]{1,9})(?:, where (wraps|zeros|wraps and zeros) are meant)?\r?")
 
     def __init__(self, text, lines_before=0):
         self.lines = text.split("\n")
         self.lines_before = lines_before
-        # The numbers of the comments' lines, and of each the file and the number of the line after it.
+        # The numbers of the comments' lines; of each the file, the number of the line after it, and what is meant to happen there.
         self.starts, self.origins = [], []
         for number, line in enumerate(self.lines, 1):
             origin = self.FROM.fullmatch(line)
             if origin:
                 self.starts.append(number)
-                self.origins.append((origin[1], int(origin[2])))
+                self.origins.append((origin[1], int(origin[2]), (origin[3] or "").split(" and ")))
+
+    def part(self, line):
+        """Which linked definition a line is in, counted from 0; none, in the text's own lines."""
+        return bisect.bisect_left(self.starts, line) - 1 if self.starts and self.starts[0] < line else None
+
+    def meant(self, line, what):
+        """The linked definition that a line is in, in words, where this is meant to happen in it."""
+        part = self.part(line)
+        if part is None or what not in self.origins[part][2]:
+            return None
+        file, first, _ = self.origins[part]
+        name = re.match(r"\w*", "".join(self.lines[self.starts[part] : self.starts[part] + 1]))[0]
+        return f"{name} at {shown(file)}, line {first}"
 
     def told(self, line, column):
         """A place, in words."""
-        within = [start for start in self.starts if start < line]
-        if within:
-            file, first = self.origins[len(within) - 1]
-            return f"{shown(file)}, line {first + line - within[-1] - 1}, column {column}"
+        part = self.part(line)
+        if part is not None:
+            file, first, _ = self.origins[part]
+            return f"{shown(file)}, line {first + line - self.starts[part] - 1}, column {column}"
         if self.lines_before:
             return f"line {self.lines_before + line}, column {column} (line {line} of the job)"
         return f"line {line}, column {column}"

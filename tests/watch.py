@@ -4,7 +4,8 @@ throughout, and where an output was clipped. It is what `bin/explain PROGRAM --f
 A number that wraps keeps what it would be with all its bits. That it wrapped is told as soon as something comes of it that would
 be otherwise: it is divided, compared, shifted right, chosen by, an index or a delay, it is fed back, or it comes out. So a sum
 that wraps and comes back is not told. Nor is a counter or a generator: a loop on which no input of the program acts, and in
-which what is fed back passes `+ - * << >> & | xor`, choices and delays alone."""
+which what is fed back passes `+ - * << >> & | xor`, choices and delays alone. Nor is a phase that is shifted: what such a loop
+gives, plus or minus what does not come of one. Nor is what a linked definition of the library means by its comment."""
 import collections
 import re
 import struct
@@ -211,6 +212,10 @@ class Wrapped(int):
         return number
 
 
+class Phase(int):
+    """A number that a counter or a generator gives, or that is one of these plus or minus what is none: 2^32 is a turn."""
+
+
 def exact_of(number):
     return number.exact if type(number) is Wrapped else number
 
@@ -273,7 +278,7 @@ class Watch(interpreter.Maker):
 
     def __init__(self):
         self.loops, self.time = None, 0
-        self.wraps, self.zeros, self.left_out = {}, {}, {}
+        self.wraps, self.zeros, self.left_out, self.shifts = {}, {}, {}, {}
         self.quotients = []
 
     def prepare(self, diagram):
@@ -316,12 +321,28 @@ class Watch(interpreter.Maker):
             return lambda frame, known: frame[:1]
         if word in ("select2", "select3"):
             return self.choice(word)
+        if word in ("+", "-"):
+            return self.shift(diagram, word)
         if word in MODULAR:
             calculate = OPERATIONS[word]
             return lambda frame, known: [self.kept(diagram, calculate(*map(exact_of, frame)), frame)]
         if is_in_generator:
             return interpreter.primitive(word)
         return self.division(diagram, word) if word in ("/", "%") else self.strict(diagram, word)
+
+    def shift(self, diagram, word):
+        """A sum or a difference, which of a phase and of what is none is a phase."""
+        calculate = OPERATIONS[word]
+
+        def run(frame, known):
+            exact, kinds = calculate(*map(exact_of, frame)), [type(number) for number in frame]
+            if kinds.count(Phase) != 1 or Wrapped in kinds:
+                return [self.kept(diagram, exact, frame)]
+            if exact != wrap(exact):
+                self.note(self.shifts, diagram, self.time, frame)
+            return [Phase(wrap(exact))]
+
+        return run
 
     def delay(self):
         delay = interpreter.primitive("@")
@@ -401,7 +422,7 @@ class Watch(interpreter.Maker):
             for output in generated:
                 if type(given[output]) is Wrapped:
                     self.note(self.left_out, diagram, self.time, given[:1])
-                    given[output] = int(given[output])
+                given[output] = Phase(given[output])
             self.tell(given[:width])
             fed = [int(number) for number in given[:width]]
             return given
@@ -438,17 +459,24 @@ def by_place(quotients):
     return [first[token] for token in sorted(first)]
 
 
+def meant(reading, one, what):
+    """The definition of the library that this happened in, where it is meant to happen there."""
+    return reading.source.meant(reading.reader.place(one.diagram.path[0].mark)[0], what)
+
+
 def arithmetic(reading, watch, frames, unit="frame"):
-    """The lines for numbers that wrapped, or came to 0."""
+    """The lines for numbers that wrapped, or came to 0, but where the library means that."""
     lines = []
-    for what, events in (("wrapped", watch.wraps), ("divided by 0", watch.zeros)):
+    for what, kind, events in (("wrapped", "wraps", watch.wraps), ("divided by 0", "zeros", watch.zeros)):
         for _, event in sorted(events.items()):
-            happened = f"{what} at {amount(len(event.frames), unit)}, first at"
-            lines += told(reading, event.diagram, happened, event.first, unit)
-    for quotient in by_place(filter(Quotient.is_lost, watch.quotients)):
+            if not meant(reading, event, kind):
+                happened = f"{what} at {amount(len(event.frames), unit)}, first at"
+                lines += told(reading, event.diagram, happened, event.first, unit)
+    quotients = [quotient for quotient in watch.quotients if not meant(reading, quotient, "zeros")]
+    for quotient in by_place(filter(Quotient.is_lost, quotients)):
         happened = f"gave 0 throughout, at {amount(quotient.count, unit)} of a dividend other than 0, first at"
         lines += told(reading, quotient.diagram, happened, quotient.first, unit)
-    for quotient in by_place(quotient for quotient in watch.quotients if quotient.is_stuck(frames)):
+    for quotient in by_place(quotient for quotient in quotients if quotient.is_stuck(frames)):
         lines += told(reading, quotient.diagram, "gives 0 to the end of a dividend other than 0, from", quotient.since, unit)
     return lines
 
@@ -465,10 +493,17 @@ def clipped(answer, bits, first_output):
     return lines
 
 
-def left_out(reading, watch):
-    """The lines for the counters and generators that wrapped."""
+def left_out(reading, watch, frames):
+    """The lines for the counters and generators that wrapped, and for what the library means."""
     places = (reading.where(token) for token in sorted(watch.left_out))
-    return [f"  left out: the loop by ~ at {place} wraps, as a counter or a generator does" for place in places]
+    lines = [f"  left out: the loop by ~ at {place} wraps, as a counter or a generator does" for place in places]
+    for token in sorted(watch.shifts):
+        lines.append(f"  left out: {reading.spelled(token)} at {reading.where(token)} wraps, as it shifts a phase")
+    lost = [quotient for quotient in watch.quotients if quotient.is_lost() or quotient.is_stuck(frames)]
+    for happens, kind, found in (("wraps", "wraps", watch.wraps.values()), ("comes to 0", "zeros", [*watch.zeros.values(), *lost])):
+        names = dict.fromkeys(name for name in (meant(reading, one, kind) for one in found) if name)
+        lines += [f"  left out: {name} {happens}, as it is written to" for name in names]
+    return lines
 
 
 def computed(reading):
@@ -491,7 +526,7 @@ def played(reading, frames, changes, bits, first_output):
     for frame in answer:
         watch.tell(frame)
     lines = arithmetic(reading, watch, len(frames)) + clipped(answer, bits, first_output)
-    return (lines or [QUIET]) + left_out(reading, watch)
+    return (lines or [QUIET]) + left_out(reading, watch, len(frames))
 
 
 def watched(reading, settings):

@@ -23,6 +23,15 @@ aa_add = + ;
 aa_rules(0) = aa_one;
 aa_rules(n) = aa_rules(n - 1) : label
 with { label = *(vslider("aa_two // not a comment", 1, 1, 9, 1)); };
+
+// aa_turn(p): a quarter of a turn later.
+//   Wraps: the phase.
+aa_turn(p) = p + 1073741824;
+
+// Private: a part of a turn.
+//   Wraps: the phase. Zeros: none of it.
+//   Zeros: the part.
+aa_part(p, n) = aa_turn(p) / n;
 """
 AB = "ab_last = aa_two(4) : ab_helper;\nab_helper = _; // first\nab_alone = 5;\n"
 
@@ -151,6 +160,12 @@ ROWS = [
         "a name with rules of one's own wins", ["p.dsp"],
         b"aa_add(0) = _;\naa_add(n) = n;\nprocess = aa_add;\n", b"aa_add(0) = _;\naa_add(n) = n;\nprocess = aa_add;\n",
     ),
+    Call(
+        "what is meant to wrap or to come to 0", ["p.dsp"],
+        b"process = aa_part(_, 9);\n",
+        b"process = aa_part(_, 9);\n// linked from p.dsp\n// from library/aa.dsp:20, where wraps are meant\naa_turn(p) = p + 1073741824;\n"
+        b"// from library/aa.dsp:25, where wraps and zeros are meant\naa_part(p, n) = aa_turn(p) / n;\n",
+    ),
     Call("a linked text needs nothing more", ["p.dsp"], b"process = aa_two(3);\n" + TWO, b"process = aa_two(3);\n" + TWO),
     Call(
         "standard input", ["-"],
@@ -186,7 +201,7 @@ ROWS = [
         b'declare a "aa_add; process = _;\n', b'declare a "aa_add; process = _;\n',
         "link: p.dsp: nothing is linked, since a string in it never ends\n",
     ),
-    Call("the list", ["--list"], text=b"aa_one     the number one.\naa_two(x)  twice x; \"quoted\", ab_one.\n"),
+    Call("the list", ["--list"], text=b"aa_one      the number one.\naa_two(x)   twice x; \"quoted\", ab_one.\naa_turn(p)  a quarter of a turn later.\n"),
     Call("help", ["--help"], after=lambda printed: None if b"bin/link PROGRAM" in printed else f"it prints {printed!r}"),
     Call("a program that is not there", ["none.dsp"], text=b"", said="link: none.dsp: No such file or directory\n", status=2),
     Call("a folder", ["bin"], text=b"", said="link: bin: Is a directory\n", status=2),
