@@ -134,10 +134,32 @@ find_overlap() {
   fi
 }
 
-# with_words PROGRAM: the program with the words as they were read, one spelling for all
+# with_words PROGRAM OPTION..: the program with these options and the words as they were read, one spelling for all
 with_words() {
-  "$1" "$command" ${controls+"--controls=$controls"} ${bits+"--bits=$bits"} ${frames+"--frames=$frames"} ${rate+"--rate=$rate"} \
-    ${block+"--block=$block"} ${vector+"--vector=$vector"} ${workers+"--workers=$workers"} -- "$first" "$second" "$third"
+  local called=$1
+  shift
+  if [ "$command" = check ]; then
+    "$called" check -- "$first"
+  else
+    "$called" "$command" "$@" ${controls+"--controls=$controls"} ${bits+"--bits=$bits"} ${frames+"--frames=$frames"} \
+      ${rate+"--rate=$rate"} ${block+"--block=$block"} ${vector+"--vector=$vector"} ${workers+"--workers=$workers"} \
+      -- "$first" "$second" "$third"
+  fi
+}
+
+# is_kept: keeps the text of a program that is a pipe, which can be read once alone, in a file without a name, so that it can be
+# explained too where it is refused. Of a text that is too long so much is kept that it still is.
+is_kept() {
+  local copy
+  [ -p "$first" ] && [ -x "$explain" ] && [ ! -e /dev/fd/9 ] || return 1
+  case $first in
+  "${second-}" | "${controls-}") return 1 ;;
+  esac
+  copy=$(mktemp 2>/dev/null) || return 1
+  exec 9<>"$copy"
+  rm -f -- "$copy"
+  head -c 1048577 -- "$first" >&9
+  first=/dev/fd/9
 }
 
 # refuse_overlap: the program compares words by their texts. So here both words become one text, which has the bytes of both, and the
@@ -179,10 +201,10 @@ cannot_start() {
   exit 125
 }
 
-# wait_for WORD..: the program with these words, and on standard error what is to be said after it: how it is called, where it refuses
+# wait_for WORD..: what the words call, and on standard error what is to be said after it: how the program is called, where it refuses
 # the words, and on a terminal where it refuses the program
 wait_for() {
-  "$program" "$@"
+  "$@"
   end_with "$?"
 }
 
@@ -201,6 +223,22 @@ end_with() {
   exit "$1"
 }
 
+# call_on_terminal WORD..: the program with these words, its progress where it makes an output, and what is to be said after it; it
+# leaves `make` to the caller
+call_on_terminal() {
+  case $command in
+  run | au | rack)
+    . "$here/progress.sh"
+    if is_kept; then
+      wait_for with_progress "$third" with_words "$program" $shape
+    else
+      wait_for with_progress "$third" "$program" "$@"
+    fi
+    ;;
+  check) if is_kept; then wait_for with_words "$program"; else wait_for "$program" "$@"; fi ;;
+  esac
+}
+
 # call WORD..: the program with these words. Where they give neither a block nor a vector, a vector is as long as the block, and
 # for several workers both are longer. That changes no sample, and takes less time.
 call() {
@@ -213,27 +251,19 @@ call() {
   if is_taken "$@"; then
     [ "$overlap" != report ] || note=yes
   elif [ -z "$overlap" ]; then
-    wait_for "$@"
+    wait_for "$program" "$@"
   fi
   [ -z "$overlap" ] || refuse_overlap
   case $command in
   run | au | rack)
-    if [ -z "${block+given}${vector+given}" ]; then
-      shift
-      if [ "${workers-1}" -gt 1 ]; then
-        set -- "$command" --block=4096 --vector=1024 "$@"
-      else
-        set -- "$command" --vector=512 "$@"
-      fi
-    fi
-    if [ -t 2 ]; then
-      . "$here/progress.sh"
-      with_progress "$third" "$program" "$@"
-      end_with "$?"
-    fi
+    shape=--vector=512
+    [ "${workers-1}" -le 1 ] || shape="--block=4096 --vector=1024"
+    [ -z "${block+given}${vector+given}" ] || shape=
+    shift
+    set -- "$command" $shape "$@"
     ;;
-  check) [ ! -t 2 ] || wait_for "$@" ;;
   esac
+  [ ! -t 2 ] || call_on_terminal "$@"
   exec "$program" "$@"
   cannot_start
 }
