@@ -1,4 +1,5 @@
-// Analysis of graphs of signals: rates, what members stand for, and how far back signals are read.
+//! How often signals change, and how far back they are read. Promises that what passes through a delay, a group or a table has the rate
+//! of samples (`delays_are_sample`), and that no signal is read further back than its history (`histories_cover`).
 #![tactic(auto)]
 
 mod graph_rates;

@@ -1,4 +1,4 @@
-// The arities of diagrams, and the conditions of the compositions.
+//! The numbers of inputs and outputs of diagrams. Promises the arity of a composition, or which numbers do not fit (`arity_of`).
 #![tactic(auto)]
 
 mod compose;

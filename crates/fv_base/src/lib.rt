@@ -1,5 +1,5 @@
-//! What every layer speaks of: the limits of all that a user can make large, the roles of files, the words that refusals name,
-//! numbers in decimal digits, and the words and lemmas on lists and on arenas of trees.
+//! What every layer speaks of: the limits of all that a user can make large, the roles of files, the words that refusals name, decimal
+//! digits, and lemmas on lists and on arenas of trees. Promises that each limit has the value that the documents give (`limits_are`).
 #![tactic(auto)]
 
 mod digits;

@@ -1,4 +1,5 @@
-//! Several graphs side by side in one; diagrams side by side, and graphs that are theirs.
+//! Several graphs side by side in one. Promises that each output has the values of its own graph (`join`), and that joined graphs are
+//! those of diagrams side by side (`joined_propagates`, `parts_answer`).
 #![tactic(auto)]
 
 mod graph_copy;

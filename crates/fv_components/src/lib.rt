@@ -1,4 +1,5 @@
-// The strongly connected components of nodes that lead to nodes.
+//! The strongly connected components of nodes with links. Promises one number for two nodes exactly where each reaches the other
+//! (`components`).
 #![tactic(auto)]
 
 mod packed;

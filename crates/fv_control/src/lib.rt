@@ -1,4 +1,5 @@
-//! Control scripts: which control changes to which value at which frame.
+//! Control scripts, and the streams of controls. Promises the changes of a script or its first bad line (`Script::read`), and that each
+//! control stays within its range (`controls_hold`).
 #![tactic(auto)]
 
 mod changes;

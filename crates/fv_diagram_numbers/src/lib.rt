@@ -1,5 +1,5 @@
-//! The number of a diagram: what one that has no inputs, and does not depend on time, gives at time 0. And what stands before
-//! `rdtable` and `rwtable`: a table's head, which gives the table's size and its numbers, and what the table takes.
+//! The number of a diagram that has no inputs and does not depend on time, and the head of a table: its size and its numbers. Promises
+//! that these are what the stream function answers (`number_of`, `numbers`), and what is the head and what is left (`head_and_rest`).
 #![tactic(auto)]
 
 mod fixed;

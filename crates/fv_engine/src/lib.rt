@@ -1,4 +1,5 @@
-//! The engine: blocks of a plan, by one worker or by several, over one region.
+//! The engine: blocks of a plan over one region, by one worker or by several. Promises that the output of each block is that of the
+//! next frames, and one entry for the gate (`Engine::run_block`).
 #![tactic(auto)]
 
 mod alone;

@@ -1,5 +1,5 @@
-//! The codes of a plan's loops, each over the lanes that its loop sees, how many these are, and the places of all cells; the lanes and
-//! cells of one loop, as a worker that has them alone sees them.
+//! The codes of a plan's loops, each over the lanes and cells that its loop sees. Promises that a renumbered code does what the plan's
+//! code does (`local_codes`, `renumbered_code_obeys`).
 #![tactic(auto)]
 
 mod cells;

@@ -1,6 +1,5 @@
-//! A block by a crew of workers, over the cells of one region: the parcels of a block, and the body that runs its tasks over them,
-//! whichever worker has them; what its lists take of memory, how its lanes and cells go to their loops and come back, and the parcels
-//! with which it begins.
+//! A block by a crew of workers over the cells of one region: the parcels of a block, and how its lanes and cells go to their loops and
+//! come back. Promises what one worker leaves, or, where memory is refused, that no task ran (`run_spread`).
 #![tactic(auto)]
 
 mod block;

@@ -1,5 +1,6 @@
-//! The samples that a diagram answers on an input while its controls change as a script says, by an engine, block by block: a block
-//! ends where the next change of a control comes. And a diagram that is played so from an input to an output, a WAV or an AU file each.
+//! A diagram's graph that is rendered block by block, over a tape or from an input file to an output file; a block ends where the next
+//! change of a control comes. Promises the samples that the stream function answers, for any sizes (`render_tape`), and what is written
+//! where a run stops (`play_files`).
 #![tactic(auto)]
 
 mod blocks;

@@ -1,4 +1,5 @@
-//! Evaluation: the diagram and the controls that a program's tree stands for, or the one reason why it has none.
+//! Evaluation of a program's tree. Promises the diagram and the controls that the rules give, or the first refusal that they meet
+//! (`evaluate`).
 #![tactic(auto)]
 
 mod apply;

@@ -1,6 +1,5 @@
-//! Putting the compositions that evaluation makes over diagrams that are there: of two parts, of lists, around a body,
-//! a diagram on its arguments, waveforms and tables. And the controls of a program as they come: one for each label, in the order of
-//! their first evaluation.
+//! Puts together the diagrams that an evaluation makes, and keeps its controls in the order of their first evaluation. Promises that
+//! what is put is what the rules say (`makes`), and that each label is one control (`enter`).
 #![tactic(auto)]
 
 mod application;

@@ -1,4 +1,5 @@
-//! What a name stands for, and which rule matches: definitions by name, the choice of a rule.
+//! Definitions by name, and the choice of a rule. Promises what a name stands for, or that nothing binds it (`look_up`), and the first
+//! rule that matches (`choose`).
 #![tactic(auto)]
 
 mod around;

@@ -1,4 +1,5 @@
-//! Patterns against values: matching, and what is remembered of long patterns.
+//! Patterns against values, and memos of long patterns. Promises exactly whether patterns match and what they bind (`matches`,
+//! `match_all`), and that what is remembered is true.
 #![tactic(auto)]
 
 mod all_patterns;

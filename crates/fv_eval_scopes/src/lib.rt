@@ -1,5 +1,5 @@
-//! Values and environments of an evaluation, as numbers of its lists; ways outward over scopes, and those that look-ups have gone,
-//! remembered; what is remembered of diagrams' numbers.
+//! Values and environments of an evaluation, as indices into lists; the tries that skip scopes without a name, and memos of look-ups
+//! and numbers. Promises what each environment binds, and that what is remembered is true.
 #![tactic(auto)]
 
 mod memo;

@@ -1,4 +1,5 @@
-//! The tasks of a block, and their edges; and the core of a scheduler: which task each worker may run next.
+//! The tasks of a block and their edges, and the core of a scheduler: which task each worker may run next. Promises each edge once at
+//! both ends (`edges_meet`), and that by any legal list of events each task runs once, after all that it reads (`tasks_run_once`).
 #![tactic(auto)]
 
 mod begin;

@@ -1,5 +1,5 @@
-//! Files of jobs: the texts of programs that are to run side by side. And the controls of several jobs that one script moves: their
-//! labels, and which changes are whose.
+//! Files of jobs: the texts of programs that run side by side, and the labels of their controls. Promises the texts between the
+//! separators, or why there are none (`Jobs::read`), and that each job hears exactly its own changes (`jobs_hear_their_changes`).
 #![tactic(auto)]
 
 mod control_laws;

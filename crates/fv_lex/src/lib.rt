@@ -1,4 +1,5 @@
-//! The tokens of a Faust text: what they are, and the one list of them that a text has.
+//! The tokens of a Faust text. Promises the tokens of a text or its first refusal (`tokens`), and that no text has two answers
+//! (`one_answer`).
 #![tactic(auto)]
 
 mod form;

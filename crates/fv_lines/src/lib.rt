@@ -1,5 +1,5 @@
-//! Lanes over the parts of a region, which are lists that only grow; the items of lists that are read and written; and the writers of
-//! all lanes, cut out of lent cells one after another, and how the loan of these cells ends.
+//! Lanes over the parts of a region, which only grow, and the items of tables that are written. Promises that a lane holds the samples
+//! that were appended, as far back as its history goes, and that what was seen of a lane stays.
 #![tactic(auto)]
 
 mod begin;

@@ -1,4 +1,6 @@
-// The code of loops, the lanes, tables and cells that it works on, and the laws of tasks that run it.
+//! The code of loops, and the plain loop that runs it sample by sample. Promises what a run leaves in registers and lanes (`run`), that
+//! a task of a code that obeys streams leaves these streams (`tasks_are_done`), and that any order of tasks does, in which each comes
+//! after what it reads (`order_is_free`).
 #![tactic(auto)]
 
 mod act;

@@ -1,5 +1,6 @@
-//! What the program is handed from outside: a desk with its files, a gate that is told of each block, and a tape, which a run hears
-//! its frames from and says its frames to.
+//! What a run is handed from outside: a desk with its files, a gate that is told of each block, and tapes, from which a run hears its
+//! frames and to which it says them. Promises that `MemoryDesk` and `FileDesk` keep the contract of `Desk`, that `Recorder` keeps that
+//! of `Gate`, and that each loop over reads and writes ends.
 #![tactic(auto)]
 
 mod counts;

@@ -1,4 +1,5 @@
-//! The parser: the one tree that the tokens of a text spell.
+//! The parser: the tree of a text's tokens, and what refuses it. Promises the one tree of a program, or its first refusal with its
+//! exact place (`parse`, `one_outcome`).
 #![tactic(auto)]
 
 mod clash;

@@ -1,5 +1,6 @@
-//! The grammar of Faust: which tokens spell which tree, how they are read from left to right, and the exact place of a syntax error:
-//! the tokens before it begin a program, and with the next one none begins.
+//! The grammar of Faust as a relation, its recursive descent, and viable prefixes. Promises that tokens spell at most one tree
+//! (`spelled_once`), that the descent reads exactly what is spelled (`reads_what_is_spelled`), and that the place where it stops is
+//! that of the syntax error: the tokens before it begin a program, and with the next one none begins (`stops_at_the_place`).
 #![tactic(auto)]
 
 mod form;

@@ -1,4 +1,4 @@
-//! The tree that the symbols of a text spell, read from left to right.
+//! The tree of a text's tokens, in an arena. Promises the tree that the tokens spell, or the first token that does not fit (`read`).
 #![tactic(auto)]
 
 mod arena;

@@ -1,4 +1,5 @@
-//! Samples as bytes, in the codings of WAV and AU files.
+//! Samples as bytes, in the codings of WAV and AU files. Promises the samples of bytes and the bytes of samples, clamped to the width
+//! (`decode`, `encode`), and that what was written is read again (`samples_are_read_again`).
 #![tactic(auto)]
 
 mod coding;

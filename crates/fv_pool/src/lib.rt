@@ -1,4 +1,5 @@
-// One region of cells, cut in parts that lie apart, and how the loans of its cells end.
+//! One region of cells, cut into parts. Promises that parts do not overlap, and what the region holds after the loans of its cells have
+//! ended.
 #![tactic(auto)]
 
 mod cells;

@@ -1,4 +1,5 @@
-// From diagrams to graphs of signals.
+//! From diagrams to graphs of signals. Promises a graph whose outputs are the diagram's at every sample, in which no signal occurs
+//! twice and no delay is longer than the spans say (`propagate`).
 #![tactic(auto)]
 
 mod progress;

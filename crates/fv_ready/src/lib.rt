@@ -1,5 +1,6 @@
-//! The board of a scheduler: counts, claims, stamps and edge slots that any number of workers share, in atomic steps; and its rule:
-//! what its words, its edge slots and its seats' lists keep, at every step of any schedule.
+//! The board of a scheduler: counts, claims, stamps and edge slots that any number of workers share, in atomic steps. Promises that
+//! each step of any schedule keeps the board's rule and shows at most one legal event (`step_law`), and what a closed board tells of
+//! all workers (`Board::close`).
 #![tactic(auto)]
 
 mod begin;

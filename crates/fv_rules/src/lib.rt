@@ -1,6 +1,6 @@
-//! The rules of evaluation: what a program's text means as a block diagram, and their laws; what an evaluation is refused for,
-//! and putting a node as the rules say. And the machine that means the same, as definitions: what waits, what is done next, one step;
-//! with the law that no step changes what a configuration stands for.
+//! The rules of evaluation: what a program's text means as a block diagram, and the machine that means the same, as definitions.
+//! Promises that more visits change no result (`evaluation_follows`), that no step of the machine changes what it stands for
+//! (`steps_mean`), and that every program that evaluates can run (`evaluates_to_runnables`).
 #![tactic(auto)]
 
 mod laws;

@@ -1,4 +1,5 @@
-// A builder of graphs that shares equal signals and equal tables.
+//! A builder of graphs that shares equal signals (hash-consing) and equal tables. Promises one number for equal signals and different
+//! numbers for different ones (`Builder::node`).
 #![tactic(auto)]
 
 mod builder;

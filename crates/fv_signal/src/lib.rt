@@ -1,4 +1,5 @@
-// Graphs of signals: their values, how often these change, and the laws of both.
+//! Graphs of signals: their values, and how often these change. Promises that the values of a graph are the only streams that satisfy
+//! its nodes (`solutions_are_values`), and that they stay as the graph grows (`growth_keeps_values`).
 #![tactic(auto)]
 
 mod graph;

@@ -1,5 +1,5 @@
-//! Simpler graphs of signals: what one is, why a graph that is rebuilt twice is one, and the pass that rebuilds. Between the two
-//! rebuildings equal signals are read as one, also where they feed back.
+//! Simpler graphs of signals: two runs of a pass that rebuilds, and between them equal signals read as one, even in feedback. Promises
+//! a graph with the same values in which no rule applies (`simplify`), and an exact test of what may be read as one (`folds`).
 #![tactic(auto)]
 
 mod finder;

@@ -1,4 +1,4 @@
-// How a graph is split into loops.
+//! Splits a graph into loops. Promises a plan that stands for the graph, and whose reads are exactly the loads between loops (`split`).
 #![tactic(auto)]
 
 mod cells;

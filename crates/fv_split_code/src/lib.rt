@@ -1,4 +1,5 @@
-// The code of the loops of a graph and of its held values, signal by signal.
+//! The code of the loops of a graph and of its held values, signal by signal. Promises that each code obeys the streams of its signals
+//! (`codes`, `held_code`).
 #![tactic(auto)]
 
 mod emit;

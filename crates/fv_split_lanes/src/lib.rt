@@ -1,4 +1,5 @@
-// Which signals of a graph have lanes, which loops these form, and in which loop each signal is computed.
+//! Which signals of a graph have lanes, which loops these form, and in which loop each signal is computed. Promises what `split` needs
+//! of them (`assign_lanes`).
 #![tactic(auto)]
 
 mod home;

@@ -1,4 +1,5 @@
-// Plans: what loops a graph is split into, when a plan stands for a graph, and the laws of both.
+//! Plans: the loops of a graph, and when a plan stands for a graph. Promises by the type `Plan` that it stands for some graph, and that
+//! the tasks of such a plan leave the graph's values (`codes_obey`, `plans_do_tasks`).
 #![tactic(auto)]
 
 mod lane;

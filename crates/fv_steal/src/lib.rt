@@ -1,7 +1,6 @@
-//! Workers that run the tasks of a block side by side, each from its own deque, and steal from one another: the deques under their
-//! rule, the workers, and a block by a crew of them. In a deque no number is put twice, and what was put is what lies there and what was
-//! taken. The owner puts and takes at the back, others take at the front (Letz, Orlarey, Fober 2010). Of a block the parcels of its
-//! entry edges go in, and those of its exit edges come out.
+//! Deques, workers that run the tasks of a block side by side and steal from one another, and a block by a crew of them (Letz, Orlarey,
+//! Fober 2010). Promises that each number of a deque is taken at most once (`push`, `pop`, `steal`), and that each task that was taken
+//! is finished and told, with nothing left over (`work`, `run_crew`).
 #![tactic(auto)]
 
 mod all_holds;

@@ -1,4 +1,5 @@
-//! Runs a program: the one call that does all that the command does.
+//! Runs a program: the stages of a run, and the one call that does all that the command does. Promises the headline, clause by clause
+//! in `docs/PROMISES.md` (`run_faustvec`).
 #![tactic(auto)]
 
 mod check;

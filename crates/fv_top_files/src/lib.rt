@@ -1,4 +1,5 @@
-//! The files of a run: the first bytes of a file, the head of an input, and the format of the output that is made on it.
+//! The files of a run: the first bytes of a file, the head of an input, and the format of the output. Promises the head or its refusal
+//! (`load_head`), and the output's format or why there is none (`fit`).
 #![tactic(auto)]
 
 mod files;

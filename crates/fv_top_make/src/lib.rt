@@ -1,5 +1,5 @@
-//! What `make` runs: the text of a program of some voices, and which program that text is; the noise that it hears, and the sum of
-//! what it gives.
+//! What `make` runs: the text of a program of N voices, its noise, and the sum of its output. Promises that the text of 1 to 64 voices
+//! is a program (`voices_are_a_program`), and the exact sum.
 #![tactic(auto)]
 
 ghost use Rattle.std.specs.Prelude.{◌≡◌, pos, ◌+ℤ◌, ◌*ℤ◌, IfOk};

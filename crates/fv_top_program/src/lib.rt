@@ -1,5 +1,6 @@
-//! What the file of a program is: a text, or a file of jobs whose programs are played side by side. A text has its tokens, their
-//! tree, the tree's value, its channels and its delays. And what is played of it: its graph, its channels and its controls.
+//! What the file of a program is: a text, or a file of jobs whose programs run side by side; and what is played of it: its graph, its
+//! channels and its controls. Promises that it is one program or refused for one thing (`one_program`, `one_file`), and what each job
+//! of a rack answers (`jobs_answer`).
 #![tactic(auto)]
 
 mod jobs;

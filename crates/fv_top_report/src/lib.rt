@@ -1,4 +1,4 @@
-//! Why a run is refused: one row for each refusal; and the lines of the report.
+//! The lines of the report, with one row for each refusal. Promises exactly the bytes of each line (`report_refusal`, `report_done`).
 #![tactic(auto)]
 
 mod line;

@@ -1,4 +1,4 @@
-//! The words of the command line: what they ask for, or why they are refused.
+//! The words of the command line. Promises what they ask for, or the first cause to refuse them (`job_in`).
 #![tactic(auto)]
 
 mod cause;

@@ -1,4 +1,5 @@
-//! WAV files: the head and the samples, read and written through a desk.
+//! WAV files: the head and the samples, read and written through a desk. Promises the head, or the first rule that fails and its place
+//! (`read_head`), exactly the bytes that are written, and that they are read again (`written_is_read`).
 #![tactic(auto)]
 
 mod chunks;
