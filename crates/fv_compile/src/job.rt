@@ -13,7 +13,7 @@ pub struct Job {
     pub controls: u32,
 }
 
-/// Each graph names only inputs and controls of its own, and the numbers of all of them fit.
+/// Whether each graph names only inputs and controls of its own, and the numbers of all of them fit.
 pub fn can_be_joined(jobs: &[Job]) -> bool
     ensures { IsTrue result ↔ CanBeJoined jobs.now }
 {
@@ -49,7 +49,7 @@ fn reads_within(graph: &Graph, inputs: u32, controls: u32) -> bool
     true
 }
 
-// So it is with this signal.
+// Whether this signal names only inputs and controls below these numbers.
 fn names_below(signal: Signal, inputs: u32, controls: u32) -> bool
     ensures { IsTrue result ↔ NamesBelow inputs controls signal }
 {

@@ -212,7 +212,7 @@ fn finish(marks: &mut [Mark], nodes: &[u64], count: u64)
     }
 }
 
-/// Each node leads to nodes that are there.
+/// Whether each node leads to nodes that are there.
 pub fn are_links(links: &Rows) -> bool
     ensures { IsTrue result ↔ AreLinks (next_of links.now) (length links.now) }
 {
@@ -225,7 +225,7 @@ pub fn are_links(links: &Rows) -> bool
     true
 }
 
-// Each node of a row is there.
+// Whether each node of a row is there.
 fn leads_below(row: &[u64], nodes: u64) -> bool
     ensures { IsTrue result ↔ All (λ b. b < nodes) row.now }
 {

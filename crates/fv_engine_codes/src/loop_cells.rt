@@ -25,7 +25,7 @@ pub struct LoopCells<'b> {
     pub lists: Vec<Vec<i32>>,
 }
 
-// Puts `x` at the index `w` of one of these lists, and answers the item that is then at the index `r`.
+// Puts `x` at the index `w` of one of these lists, and returns the item that is then at the index `r`.
 fn exchange_in(lists: &mut [Vec<i32>], at: u64, w: i32, x: i32, r: i32) -> i32
     requires { HasItems (lists_of lists.old) at }
     ensures item { result ≡ read_at (list_at (lists_of lists.new) at) r }
@@ -45,7 +45,7 @@ impl<'b> LoopCells<'b> {
         item(self.plan.table(table), index)
     }
 
-    /// Puts `x` at the index `w` of cells, and answers the item that is then at the index `r`.
+    /// Puts `x` at the index `w` of cells, and returns the item that is then at the index `r`.
     pub fn exchange(&mut self, cells: u64, w: i32, x: i32, r: i32) -> i32
         requires placed { AreCellsPlaced self.old }
         requires there { HasItems (cells_of self.old) cells }

@@ -14,7 +14,7 @@ use crate::{
 use fv_lines::LaneWriter;
 use std::snapshot::Snapshot;
 
-/// What runs the block's tasks, and the parcels with which its loops begin: each has the writers of its lanes, and its cells.
+/// Makes what runs the block's tasks, and the parcels with which its loops begin. Each has the writers of its lanes, and its cells.
 pub(crate) fn enter<'a, 'b>(
     block: &SpreadBlock<'b>,
     begun: Vec<LaneWriter<'a>>,

@@ -10,8 +10,8 @@ use crate::Writers;
 use fv_lines::LaneWriter;
 use fv_split_plan::Plan;
 
-/// Each lane's writer goes to the list of its loop, lane by lane, so that a loop has its lanes in their order. The lists have room, so
-/// that no memory is taken.
+/// Deals each lane's writer to the list of its loop, lane by lane, so that a loop has its lanes in their order. The lists have
+/// room, so that no memory is taken.
 pub fn deal<'a, 'b>(plan: &Plan, all: Vec<LaneWriter<'a>>, rooms: &mut [Box<Writers<'a, 'b>>])
     requires count { length all.items ≡ length plan.now.lanes }
     requires rooms { (g : Tasks) × (places : CellPlaces) × AreRooms plan.now g places rooms.old }

@@ -8,7 +8,7 @@ use fv_loopcode_machine::Scratch;
 use std::alloc::{AllocError, Global};
 use std::mem::replace;
 
-// More than a type counts is want of memory.
+// The product of two counts; where a `u64` cannot hold it, that is want of memory.
 pub(crate) fn times(a: u64, b: u64) -> Result<u64, AllocError>
     ensures { IfOk result (λ n. n ≡ a * b) }
 {

@@ -290,7 +290,7 @@ fn two_loops_by_several_workers(rt: HostRuntime) -> Result<(), Fail> {
     Ok(())
 }
 
-// Where a line is of the second loop, it starts after the finish of the first one's on its vector.
+// Whether a line of the second loop starts after the finish of the first one's on its vector.
 fn follows_its_source(line: &Line, lines: &[Line]) -> bool {
     for source in lines {
         let is_read = line.task.loop_no == 1
@@ -303,7 +303,7 @@ fn follows_its_source(line: &Line, lines: &[Line]) -> bool {
     true
 }
 
-// The lines of the first block do so, and stand by their starts.
+// Whether the lines of the first block follow their sources, and stand by their starts.
 fn is_in_order(recorder: &Recorder) -> bool {
     let Some((_, _, _, lines)) = block_of(recorder, 0) else {
         return false;

@@ -30,7 +30,7 @@ pub(crate) struct Sizes {
 }
 
 impl Sizes {
-    // An engine may have them.
+    // Whether an engine may have these sizes.
     fn are_allowed(self) -> bool
         ensures width { IsTrue result → self.width ≤ MOST_CHANNELS }
         ensures block { IsTrue result → (1 ≤ self.block) × (self.block ≤ MOST_BLOCK) }

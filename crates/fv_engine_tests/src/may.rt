@@ -43,7 +43,7 @@ fn names_beyond(graph: &Graph, channels: u32, controls: usize) -> bool
     false
 }
 
-// A lane keeps more history than an engine allows.
+// Whether a lane keeps more history than an engine allows.
 fn histories_beyond(plan: &Plan) -> bool
     ensures { result ≡ false → (l : ℕ) → l < length plan.now.lanes → (lane_info plan.now l).history ≤ DELAY_BUDGET }
 {

@@ -125,7 +125,7 @@ pub(crate) fn is_same(a: &Node, b: &Node) -> bool
     }
 }
 
-// A number of a node. Equal nodes have the same one.
+// A hash of a node. Equal nodes have the same one.
 fn mixed(node: &Node) -> u64 {
     match *node {
         Node::Prim(prim) => mixed_by(1, of_primitive(prim), 0),
@@ -143,7 +143,7 @@ fn mixed(node: &Node) -> u64 {
     }
 }
 
-// Three numbers in one, whose lowest bits depend on all of them.
+// A hash of three numbers, whose lowest bits depend on all of them.
 fn mixed_by(kind: u64, first: u64, second: u64) -> u64 {
     let whole = first
         .wrapping_mul(0x9e37_79b9_7f4a_7c15)
@@ -153,7 +153,7 @@ fn mixed_by(kind: u64, first: u64, second: u64) -> u64 {
     whole ^ (whole >> 32)
 }
 
-// A number of a primitive. Operations share one each.
+// A hash of a primitive. All operations share one.
 fn of_primitive(prim: Prim) -> u64 {
     match prim {
         Prim::Wire => 1,

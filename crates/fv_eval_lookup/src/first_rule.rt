@@ -193,7 +193,7 @@ impl Definitions<'_> {
     }
 }
 
-// The first of rules that matches, where the others than these do not.
+// The first rule that matches, where only these may match.
 fn first_match(
     subjects: &Subjects,
     rules: Rules,

@@ -148,7 +148,7 @@ pub(crate) fn left_by(
     }
 }
 
-/// The first of the rules from a place on that may match, if it is before an end; else the end.
+/// The index of the first rule from an index on that may match, if it is before an end; else the end.
 pub(crate) fn next_left(left: &Option<Bits>, from: u64, end: u64) -> u64
     ensures from { from ≤ end → from ≤ result }
     ensures within { from ≤ end → result ≤ end }

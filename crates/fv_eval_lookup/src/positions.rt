@@ -151,7 +151,7 @@ impl Position {
         Ok(Some(key))
     }
 
-    // Leaves those rules alone that an argument with a key leaves.
+    // Keeps only the rules that an argument with a key leaves.
     fn leave(&self, alloc: Global, key: u64, rules: &mut Bits) -> Result<(), AllocError>
         ensures { OnOk result ((all : List Rule) (j : ℕ) (r : Rule) → Knows all self.now → slice_get all j ≡ Some r
             → permits key (want_at self.now.path r) ≡ true → has rules.old j ≡ true → has rules.new j ≡ true) }
@@ -167,7 +167,7 @@ impl Position {
         Ok(())
     }
 
-    /// Leaves those rules alone that may match by what the argument is at the position.
+    /// Keeps only the rules that may match by what the argument is at the position.
     pub(crate) fn narrow(
         &self,
         subjects: &Subjects,

@@ -8,7 +8,7 @@ use fv_eval_patterns::Bits;
 use std::alloc::{AllocError, Global};
 use std::marker::Model;
 
-/// The key that a rule wants. The rule is told by its place among the rules.
+/// The key that a rule wants, and the index of the rule among the rules.
 #[derive(Clone, Copy)]
 pub(crate) struct Wanted {
     pub(crate) key: u64,

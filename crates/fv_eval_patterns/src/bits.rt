@@ -56,7 +56,7 @@ impl Bits {
         self.words == others.words
     }
 
-    /// A number that is the same for the same places.
+    /// A hash of the set: equal sets have the same one.
     pub fn mixed(&self) -> u64 {
         let mut mixed = 0u64;
         for word in &self.words {
@@ -89,7 +89,7 @@ impl Bits {
         Ok(())
     }
 
-    /// Leaves those alone that are among others too.
+    /// Keeps only the places that are among others too.
     pub fn keep(&mut self, others: &Bits)
         ensures { (j : ℕ) → has self.old j ≡ true → has others.now j ≡ true → has self.new j ≡ true }
     {
@@ -113,7 +113,7 @@ impl Bits {
         }
     }
 
-    /// The first of the places from one on, if it is before an end; else the end.
+    /// The first place from one on that is in the set, if it is before an end; else the end.
     pub fn next(&self, from: u64, end: u64) -> u64
         ensures from { from ≤ end → from ≤ result }
         ensures within { result ≤ end }

@@ -103,7 +103,7 @@ impl<'a, 'l, 's, 'b, 'c> Solo<'a, 'l, 's, 'b, 'c> {
         self.layout.len()
     }
 
-    /// There are no lanes.
+    /// Whether there are no lanes.
     pub fn is_empty(&self) -> bool
         ensures { IsTrue result ↔ (length (lanes_of self.now) ≡ 0) }
     {

@@ -70,7 +70,7 @@ impl<'a> LaneWriter<'a> {
         self.written += values.len() as u32;
     }
 
-    /// All samples of the block are written.
+    /// Whether all samples of the block are written.
     pub fn is_full(&self) -> bool
         ensures { IsTrue result ↔ (written_by self.now ≡ frames_of self.now) }
     {

@@ -10,7 +10,7 @@ use std::test::Fail;
 
 const FRAMES: u32 = 4;
 
-// The lists have one entry for each lane, and there is room for all parts.
+// Whether the lists have one entry for each lane, and there is room for all parts.
 fn are_lists(
     layout: &Layout,
     shapes: &[LaneShape],
@@ -27,7 +27,7 @@ fn are_lists(
         && layout.total() <= cells.len() as u64
 }
 
-// A lane's part has its length, and its state names a history there.
+// Whether a lane's part has its length, and its state names a history there.
 fn is_held(shape: LaneShape, state: LaneState, length: u64, frames: u32) -> bool
     ensures held { IsTrue result → IsHeld shape.history shape.len length state.start }
     ensures framed { IsTrue result → frames ≤ shape.block }
@@ -40,7 +40,7 @@ fn is_held(shape: LaneShape, state: LaneState, length: u64, frames: u32) -> bool
     starts && length == shape.len && frames <= shape.block
 }
 
-// A block may begin.
+// Whether a block may begin.
 fn may_begin(
     layout: &Layout,
     shapes: &[LaneShape],
@@ -65,7 +65,7 @@ fn may_begin(
     true
 }
 
-// No lane takes one sample more.
+// Whether no lane takes one sample more.
 fn are_full(solo: &Solo<'_, '_, '_, '_, '_>) -> bool
     requires { IsSolo solo.now }
     ensures { IsTrue result → AreFull (lanes_of solo.now) }

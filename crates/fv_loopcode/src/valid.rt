@@ -6,7 +6,7 @@ ghost use Rattle.fv_loopcode.specs.Code.{IsValid, AreValid};
 use crate::counts::Counts;
 use crate::step::Step;
 
-// The operands of a step are earlier, and what it names is there.
+// Whether the operands of a step are earlier, and what it names is there.
 fn is_valid(step: Step, place: u64, counts: Counts) -> bool
     ensures { IsTrue result ↔ IsValid place counts step }
 {
@@ -28,7 +28,7 @@ fn are_below(args: &[u64], place: u64) -> bool
     args.iter().all(|arg| *arg < place)
 }
 
-/// Each operand is the number of an earlier step, and each lane, table and cells that a step names is there.
+/// Whether each operand is the number of an earlier step, and each lane, table and cells that a step names is there.
 pub fn are_valid(steps: &[Step], counts: Counts) -> bool
     ensures { IsTrue result ↔ AreValid counts steps.now }
 {

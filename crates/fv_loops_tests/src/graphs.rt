@@ -42,7 +42,7 @@ struct Row {
     steps: &'static [u64],
 }
 
-// The plan has the row's lanes, cells, reads and outputs.
+// Whether the plan has the row's lanes, cells, reads and outputs.
 fn has_lanes(plan: &Plan, row: &Row) -> bool {
     plan.lanes() == row.lanes
         && plan.cells() == row.cells
@@ -50,7 +50,7 @@ fn has_lanes(plan: &Plan, row: &Row) -> bool {
         && plan.outputs() == row.ends
 }
 
-// The plan has the row's tables.
+// Whether the plan has the row's tables.
 fn has_tables(plan: &Plan, row: &Row) -> bool {
     if plan.tables() != row.tables.len() as u64 {
         return false;
@@ -63,7 +63,7 @@ fn has_tables(plan: &Plan, row: &Row) -> bool {
     true
 }
 
-// The code of each loop of the plan has as many steps as the row says.
+// Whether the code of each loop of the plan has as many steps as the row says.
 fn has_steps(plan: &Plan, row: &Row) -> bool {
     if plan.loops() != row.steps.len() as u64 {
         return false;

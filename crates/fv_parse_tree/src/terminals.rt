@@ -75,7 +75,7 @@ impl Symbols<'_> {
         }
     }
 
-    /// Passes a comma, if there is one.
+    /// Passes a comma, if there is one. Returns whether there was one.
     fn skip_comma(&mut self) -> bool
         ensures { Skips at_comma self.old self.new result }
     {

@@ -60,7 +60,7 @@ impl Layout {
         self.lengths.len() as u64
     }
 
-    /// There are no parts.
+    /// Whether there are no parts.
     pub fn is_empty(&self) -> bool
         ensures { IsTrue result ↔ (length self.now ≡ 0) }
     {

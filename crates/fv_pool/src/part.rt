@@ -65,7 +65,7 @@ impl<'a> Uncut<'a> {
         self.cells.len()
     }
 
-    /// No cells are left.
+    /// Whether no cells are left.
     pub fn is_empty(&self) -> bool
         ensures { IsTrue result ↔ (length (left_of self.now) ≡ 0) }
     {

@@ -34,14 +34,14 @@ impl Region {
         self.cells.len() as u64
     }
 
-    /// There are no cells.
+    /// Whether there are no cells.
     pub fn is_empty(&self) -> bool
         ensures { IsTrue result ↔ (length (cells_of self.now) ≡ 0) }
     {
         self.cells.is_empty()
     }
 
-    /// The parts of a layout find room in the region.
+    /// Whether the parts of a layout find room in the region.
     pub fn has_room(&self, layout: &Layout) -> bool
         ensures { IsTrue result ↔ HaveRoom layout.now (cells_of self.now) }
     {

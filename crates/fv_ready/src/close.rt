@@ -68,7 +68,7 @@ fn end_table<C: Parcel>(
     table.close_with(all)
 }
 
-// No task is claimed.
+// Whether no task is claimed.
 fn is_untouched<C>(closed: &Closed<Option<C>, Global>, tasks: u64) -> bool
     requires words { IsFull closed.now.words × (slots_len closed.now.words ≡ 1 + tasks + tasks) × (1 + tasks + tasks < 2 ^ 64) }
     ensures { IsTrue result ↔ ((t : ℕ) → t < tasks → get_elem? (slots_items closed.now.words) (claim_word tasks t) ≡ some 0) }

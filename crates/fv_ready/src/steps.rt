@@ -15,7 +15,7 @@ use crate::rule::{Arriving, Claiming, Finishing, Look, Starting};
 use crate::seat::{InHand, WorkerSeat, append, place_of, spin};
 
 impl<'t, C: Parcel> Board<'t, C> {
-    /// The task's count is 0 at this step.
+    /// Looks whether the task's count is 0 at this step.
     pub fn is_ready(&self, seat: &mut WorkerSeat<C>, t: u64) -> bool
         requires seat { IsSeatOf C.edge_of C.key_of self.now seat.old }
         requires task { t < task_count (tasks_of self.now) }

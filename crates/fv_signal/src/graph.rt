@@ -53,7 +53,7 @@ impl Graph {
         self.signals.len() as u64
     }
 
-    /// It has no signals.
+    /// Whether it has no signals.
     pub fn is_empty(&self) -> bool
         ensures { IsTrue result ↔ (length self.now.signals ≡ 0) }
     {

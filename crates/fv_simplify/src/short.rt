@@ -7,7 +7,7 @@ ghost use Rattle.fv_simplify.specs.headline.Reducible.{AreShort, limit};
 use fv_base::limits::DELAY_BUDGET;
 use fv_signal::{Graph, Signal, SignalId};
 
-/// No greatest number of a delay is over the limit.
+/// Whether no greatest number of a delay is over the limit.
 pub fn are_short(graph: &Graph) -> bool
     ensures { IsTrue result ↔ AreShort graph.now }
 {
@@ -19,7 +19,7 @@ pub fn are_short(graph: &Graph) -> bool
     true
 }
 
-// The signal is a delay that may go back further than the limit.
+// Whether the signal is a delay that may go back further than the limit.
 fn is_longer(signal: Signal) -> bool
     ensures longer { IsTrue result → (x : ℕ) × (by : ℕ) × (most : ℕ) × (signal ≡ delay_node x by most) × (limit < most) }
     ensures short { (result ≡ false) → (x by most : ℕ) → signal ≡ delay_node x by most → most ≤ limit }

@@ -63,7 +63,7 @@ fn later_than(graph: &Graph, s: SignalId, x: SignalId) -> Option<i32>
     }
 }
 
-// A signal reads another.
+// Whether a signal reads another.
 fn reads(graph: &Graph, r: SignalId, s: SignalId) -> bool
     requires { r < length graph.now.signals }
 {
@@ -80,7 +80,7 @@ fn reads(graph: &Graph, r: SignalId, s: SignalId) -> bool
     }
 }
 
-// A signal defines a member.
+// Whether a signal defines a member.
 fn is_definition(graph: &Graph, s: SignalId) -> bool {
     for group in 0..graph.groups() {
         if graph.group(group).contains(&s) {
@@ -109,7 +109,7 @@ fn can_take_over(graph: &Graph, y: SignalId, c: i32) -> bool {
     true
 }
 
-// A signal is a delay by a number that its readers can take over.
+// Whether a signal is a delay by a number that its readers can take over.
 fn is_taken_over(graph: &Graph, y: SignalId) -> bool {
     if y.number() >= graph.len() {
         return false;

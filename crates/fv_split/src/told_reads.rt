@@ -16,7 +16,7 @@ pub struct ToldReads {
     pub last: Vec<Option<u64>>,
 }
 
-// The loop was told to read the one whose last reader this is.
+// Whether the loop was told to read the one whose last reader this is.
 fn was_told(last: Option<u64>, reader: u64) -> bool
     ensures { result ≡ was_told_by last reader }
 {

@@ -94,7 +94,7 @@ fn number(
     Ok(numbering)
 }
 
-// A signal is computed at each sample, and is not separated.
+// Whether a signal is computed at each sample, and is not separated.
 fn is_inner(node: Signal, often: Rate, separated: bool) -> bool
     ensures { IsTrue result ↔ (IsComputed node × (often ≡ rate.Sample) × (separated ≡ false)) }
 {

@@ -89,7 +89,7 @@ fn mark_groups(marks: &mut Vec<bool>, stands: &[SignalId], graph: &Graph)
     }
 }
 
-// An operation, a delay or a table.
+// Whether a signal is an operation, a delay or a table.
 pub(crate) fn is_computed(node: Signal) -> bool
     ensures { IsTrue result ↔ IsComputed node }
 {
@@ -111,7 +111,7 @@ pub(crate) fn is_computed(node: Signal) -> bool
     }
 }
 
-// It is computed at each sample, and read by many.
+// Whether a signal is computed at each sample, and read by many.
 fn is_shared(node: Signal, rate: Rate, reader: Reader) -> bool
     ensures { IsTrue result ↔ IsSharedBy node rate reader }
 {
@@ -142,7 +142,7 @@ fn mark_shared(marks: &mut Vec<bool>, graph: &Graph, rates: &Rates, readers: &[R
     }
 }
 
-// A table that is written.
+// Whether a signal is a table that is written.
 fn is_written(node: Signal) -> bool
     ensures { IsTrue result ↔ IsWritten node }
 {

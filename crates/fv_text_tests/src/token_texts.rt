@@ -13,7 +13,7 @@ use std::test::Fail;
 /// A token: its symbol, its column and its bytes.
 type Row = (Symbol, u32, &'static [u8]);
 
-/// The token with this number is this one.
+/// Whether the token with this number is this one.
 fn is_token(found: &Tokens, i: u32, kind: Kind, line: u32, row: &Row) -> bool {
     let (symbol, column, bytes) = *row;
     i < found.len()

@@ -28,7 +28,7 @@ fn cells_of(alloc: Global, tasks: &Tasks) -> Result<Vec<bool>, AllocError> {
     Ok(cells)
 }
 
-// A task reads another one: the one before it of its own loop, or that of a loop that its loop reads, at the same vector.
+// Whether a task reads another one: the one before it of its own loop, or that of a loop that its loop reads, at the same vector.
 fn does_read(table: &Table, reader: Task, source: Task) -> bool {
     if source.loop_no == reader.loop_no {
         return reader.vector > 0 && source.vector == reader.vector - 1;
@@ -37,7 +37,7 @@ fn does_read(table: &Table, reader: Task, source: Task) -> bool {
     source.vector == reader.vector && table.cells.get(pair).copied().unwrap_or(false)
 }
 
-// There is one line for each task.
+// Whether there is one line for each task.
 fn has_each_task(tasks: &Tasks, lines: &[Line]) -> bool {
     for t in 0..tasks.len() {
         let task = tasks.task(t);
@@ -48,20 +48,20 @@ fn has_each_task(tasks: &Tasks, lines: &[Line]) -> bool {
     true
 }
 
-// The line is of a task that there is, and starts before it finishes.
+// Whether the line is of a task that there is, and starts before it finishes.
 fn is_valid(tasks: &Tasks, line: &Line) -> bool {
     line.task.loop_no < tasks.loops()
         && line.task.vector < tasks.vectors()
         && line.start < line.finish
 }
 
-// No stamp of a line stands in another one.
+// Whether no stamp of a line stands in another one.
 fn is_apart(a: &Line, b: &Line) -> bool {
     a.start != b.start && a.start != b.finish && a.finish != b.start && a.finish != b.finish
 }
 
-// Two lines, one before the other: their starts rise, no stamp stands twice, and neither task began before one that it reads had
-// finished.
+// Whether of two lines, one before the other, the starts rise and no stamp stands twice. Neither task began before one that it
+// reads had finished.
 fn are_in_order(table: &Table, first: &Line, other: &Line) -> bool {
     first.start < other.start
         && is_apart(first, other)
@@ -69,7 +69,7 @@ fn are_in_order(table: &Table, first: &Line, other: &Line) -> bool {
         && (!does_read(table, first.task, other.task) || other.finish < first.start)
 }
 
-// The line is valid, and in order with each of those after it.
+// Whether the line is valid, and in order with each of those after it.
 fn leads(tasks: &Tasks, table: &Table, line: &Line, behind: &[Line]) -> bool {
     is_valid(tasks, line) && behind.iter().all(|other| are_in_order(table, line, other))
 }

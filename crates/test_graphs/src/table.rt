@@ -106,7 +106,7 @@ fn tables_of(alloc: Global, lists: &[&[i32]]) -> Result<Vec<Vec<i32>>, AllocErro
     Ok(tables)
 }
 
-// All of them stand before this place.
+// Whether all of them stand before this place.
 fn are_before(ids: &[SignalId], place: u64) -> bool
     ensures { IsTrue result → All (λ s. s < place) ids.now }
 {
@@ -126,7 +126,7 @@ fn are_defined(signals: &[Signal], groups: &[Vec<SignalId>]) -> bool
     true
 }
 
-// A group has such a member, whose definition stands before this place.
+// Whether a group has such a member, whose definition stands before this place.
 fn is_member(signals: &[Signal], groups: &[Vec<SignalId>], group: u64, i: u64, place: u64) -> bool
     ensures { IsTrue result → (group < length groups.now) × (i < length (members (graph_with signals.now groups.now [] []) group))
         × (definition (graph_with signals.now groups.now [] []) group i < place) }
@@ -136,7 +136,7 @@ fn is_member(signals: &[Signal], groups: &[Vec<SignalId>], group: u64, i: u64, p
     g < groups.len() && i < groups[g].len() && groups[g][i].number() < place
 }
 
-// A table has a number.
+// Whether a table has a number.
 fn has_number(tables: &[Vec<i32>], table: u64) -> bool
     ensures { IsTrue result → 0 < length (table_of (graph_with [] [] tables.now []) table) }
 {
@@ -144,7 +144,7 @@ fn has_number(tables: &[Vec<i32>], table: u64) -> bool
     t < tables.len() && !tables[t].is_empty()
 }
 
-// A signal may stand at this place.
+// Whether a signal may stand at this place.
 fn may_stand(
     signals: &[Signal],
     groups: &[Vec<SignalId>],
@@ -174,7 +174,7 @@ fn may_stand(
     }
 }
 
-// They are a graph.
+// Whether they are a graph.
 fn are_graph(
     signals: &[Signal],
     groups: &[Vec<SignalId>],

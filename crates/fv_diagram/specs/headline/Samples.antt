@@ -9,6 +9,6 @@ use Rattle.fv_diagram.specs.headline.Streams.{run}
 abbrev pub no_slots : ℕ → Stream
 no_slots s t = pos 0
 
--- the samples that the diagram answers on N frames, under these streams of the controls
+-- the samples that the diagram answers on this many frames, under these streams of the controls
 abbrev pub answer_on : Diagram → (c : ℕ → Stream) → (frames : ℕ) → (samples : List ℤ) → List ℤ
 answer_on d c frames samples = joined (run d c no_slots (rows (inputs d) frames samples))

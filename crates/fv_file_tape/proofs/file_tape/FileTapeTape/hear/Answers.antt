@@ -46,7 +46,7 @@ read_through t xs v =
       mouth = subst (λ n. t.most * t.head.channels * (t.head.bits / 8) ≤ n) long v.mouth;
     }
 
--- once so many are done, so many fewer are left
+-- once n more are done, n fewer are left
 left_is : (stated done n : ℕ) → n ≤ stated - done → (stated - (done + n)) + n ≡ stated - done
 left_is stated done n there = omega (arith, there)
 
