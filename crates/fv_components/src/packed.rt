@@ -26,7 +26,7 @@ impl Model for Rows {
     ghost invariant = { λ a. AreStarts a.starts.items (length a.numbers.items) };
 }
 
-// Where a row ends: where the row at this place begins, or at the end of all.
+// Where a row ends: where the row at this index begins, or at the end of all.
 fn end_of(starts: &[u64], next: usize, all: usize) -> usize
     ensures { result ≡ end_of_row (drop next starts.now) all }
 {

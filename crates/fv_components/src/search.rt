@@ -19,7 +19,7 @@ enum Mark {
     Done(u64),
 }
 
-// Neighbours on the path that reach one another: the place of the first one, and how many nodes waited before it.
+// Neighbours on the path that reach one another: the index of the first one, and how many nodes waited before it.
 #[derive(Clone, Copy)]
 struct Class {
     first: u64,
@@ -74,7 +74,7 @@ impl Search {
         Ok(())
     }
 
-    // Makes one class of those that begin after a place with the one before them.
+    // Makes one class of those that begin after an index with the one before them.
     fn collapse(&mut self, place: u64)
         ensures { (m : ℕ) × IsCountUpTo self.old.classes.items place m × (state_of self.new ≡ collapsed (state_of self.old) m) }
     {
@@ -191,7 +191,7 @@ pub fn components(alloc: Global, links: &Rows) -> Result<Vec<u64>, AllocError>
     search.numbers(alloc)
 }
 
-// How many classes begin no later than a place.
+// How many classes begin no later than an index.
 fn classes_up_to(classes: &[Class], place: u64) -> usize
     ensures { IsCountUpTo classes.now place result }
 {

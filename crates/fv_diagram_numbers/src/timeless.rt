@@ -18,19 +18,19 @@ use std::alloc::{AllocError, Global};
 /// A piece of work on numbers that stand side by side.
 #[derive(Clone, Copy)]
 pub enum Task {
-    /// Writes what a diagram gives from place `to` on, where what it takes stands from place `from` on.
+    /// Writes what a diagram gives from index `to` on, where what it takes stands from index `from` on.
     Visit {
         id: DiagramId,
         from: usize,
         to: usize,
     },
-    /// Repeats the first `count` numbers from place `at` on, until they are `many`.
+    /// Repeats the first `count` numbers from index `at` on, until they are `many`.
     Deal {
         at: usize,
         count: usize,
         many: usize,
     },
-    /// Adds the `count` numbers from place `at` on to the first `many` of them.
+    /// Adds the `count` numbers from index `at` on to the first `many` of them.
     Sum {
         at: usize,
         count: usize,
@@ -190,7 +190,7 @@ fn primitive(numbers: &mut [i32], prim: Prim, from: usize, to: usize) -> bool
     true
 }
 
-// Writes the number of one place in another.
+// Copies the number at one index to another.
 fn copy(numbers: &mut [i32], from: usize, to: usize)
     requires from { from < length numbers.old }
     requires to { to < length numbers.old }
@@ -199,7 +199,7 @@ fn copy(numbers: &mut [i32], from: usize, to: usize)
     numbers[to] = numbers[from];
 }
 
-// The value of an operation on the numbers from a place on.
+// The value of an operation on the numbers from an index on.
 fn applied(op: Op, numbers: &[i32], from: usize) -> i32
     requires { from + inputs_of op ≤ length numbers.now }
     ensures { result ≡ apply_of op (table (inputs_of op) (λ i. argument numbers.now (from + i))) }
@@ -229,7 +229,7 @@ fn extend(numbers: &mut Vec<i32>, count: usize) -> Result<usize, AllocError>
     Ok(at)
 }
 
-// Repeats the first `count` numbers from place `at` on, until they are `many`.
+// Repeats the first `count` numbers from index `at` on, until they are `many`.
 fn deal(numbers: &mut [i32], at: usize, count: usize, many: usize)
     requires some { 0 < count }
     requires more { count ≤ many }
@@ -242,7 +242,7 @@ fn deal(numbers: &mut [i32], at: usize, count: usize, many: usize)
     }
 }
 
-// Adds the `count` numbers from place `at` on to the first `many` of them.
+// Adds the `count` numbers from index `at` on to the first `many` of them.
 fn add_up(numbers: &mut [i32], at: usize, count: usize, many: usize)
     requires some { 0 < many }
     requires fewer { many ≤ count }

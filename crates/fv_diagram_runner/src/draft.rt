@@ -279,7 +279,7 @@ fn item_or(items: &[u64], i: usize, other: u64) -> u64
     if i < items.len() { items[i] } else { other }
 }
 
-// Writes registers over others, from place `first` on.
+// Writes registers over others, from index `first` on.
 fn overlay(to: &mut [u64], first: u64, from: &[u64])
     requires { first + length from.now ≤ length to.old }
     ensures { to.new ≡ written first from.now to.old }

@@ -58,7 +58,7 @@ impl Machine {
         }
     }
 
-    /// Applies a value to arguments, from a place on.
+    /// Applies a value to arguments, from an index on.
     pub fn apply(
         &mut self,
         text: &Definitions,
@@ -244,7 +244,7 @@ impl Machine {
         }
     }
 
-    // Visits a body; the arguments after this place wait for its value.
+    // Visits a body; the arguments after this index wait for its value.
     fn leave(
         &mut self,
         application: TreeId,

@@ -24,7 +24,7 @@ pub enum ForValue {
         env: u64,
         done: Vec<Value>,
     },
-    /// Arguments that an application has left, from this place on.
+    /// Arguments that an application has left, from this index on.
     Leftover {
         apply: TreeId,
         arguments: Vec<Value>,
@@ -61,7 +61,7 @@ pub enum ForDiagram {
         slot: u64,
         slots: u64,
     },
-    /// A diagram, whose next argument comes: all its arguments, the place of the one after the next, and those that are done.
+    /// A diagram, whose next argument comes: all its arguments, the index of the one after the next, and those that are done.
     Turning {
         function: DiagramId,
         arguments: Vec<Value>,

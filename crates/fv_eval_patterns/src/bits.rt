@@ -1,4 +1,4 @@
-// Sets of places in a list, with a bit for each.
+// Sets of indices of a list, with a bit for each.
 
 ghost use Rattle.std.specs.Prelude.{ℕ, ◌≡◌, ◌<◌, ◌≤◌, true, false, IfOk, IsTrue, slice_index_or};
 ghost use Rattle.fv_eval_patterns.specs.Bits.{has};
@@ -6,10 +6,10 @@ ghost use Rattle.fv_eval_patterns.specs.Bits.{has};
 use std::alloc::{AllocError, Global};
 use std::marker::Model;
 
-/// How many places a word has.
+/// How many indices a word has.
 pub const WORD: u64 = 64;
 
-/// Places in a list.
+/// A set of indices of a list.
 #[derive(Drop)]
 pub struct Bits {
     words: Vec<u64>,
@@ -24,14 +24,14 @@ impl Model for Bits {
 }
 
 impl Bits {
-    /// No place.
+    /// No index.
     pub fn new(alloc: Global) -> Bits {
         Bits {
             words: Vec::new(alloc),
         }
     }
 
-    /// The first `count` places.
+    /// The first `count` indices.
     pub fn first(alloc: Global, count: u64) -> Result<Bits, AllocError>
         ensures { IfOk result (λ b. (j : ℕ) → j < count → has b j ≡ true) }
     {
@@ -42,14 +42,14 @@ impl Bits {
         Ok(all)
     }
 
-    /// Whether a place is there.
+    /// Whether an index is in the set.
     pub fn has(&self, place: u64) -> bool
         ensures { result ≡ has self.now place }
     {
         (self.word(place / WORD) >> (place % WORD)) % 2 == 1
     }
 
-    /// Whether they are the same places; it may say no of those that are.
+    /// Whether they are the same indices; it may say no of those that are.
     pub fn is_same(&self, others: &Bits) -> bool
         ensures { IsTrue result → self.now ≡ others.now }
     {
@@ -75,7 +75,7 @@ impl Bits {
         Ok(Bits { words })
     }
 
-    /// Adds a place.
+    /// Adds an index.
     pub fn add(&mut self, place: u64) -> Result<(), AllocError>
         ensures keeps { (j : ℕ) → has self.old j ≡ true → has self.new j ≡ true }
         ensures added { IfOk result (λ _. has self.new place ≡ true) }
@@ -89,7 +89,7 @@ impl Bits {
         Ok(())
     }
 
-    /// Keeps only the places that are among others too.
+    /// Keeps only the indices that are among others too.
     pub fn keep(&mut self, others: &Bits)
         ensures { (j : ℕ) → has self.old j ≡ true → has others.now j ≡ true → has self.new j ≡ true }
     {
@@ -113,7 +113,7 @@ impl Bits {
         }
     }
 
-    /// The first place from one on that is in the set, if it is before an end; else the end.
+    /// The first index from one on that is in the set, if it is before an end; else the end.
     pub fn next(&self, from: u64, end: u64) -> u64
         ensures from { from ≤ end → from ≤ result }
         ensures within { result ≤ end }

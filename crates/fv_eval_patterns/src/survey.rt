@@ -382,12 +382,12 @@ impl Survey {
     }
 }
 
-// The number at a place of a list, and 0 where there is none.
+// The number at an index of a list, and 0 where there is none.
 fn number_at(list: &Vec<u64>, i: usize) -> u64 {
     if i < list.len() { list[i] } else { 0 }
 }
 
-// Puts a number at a place of a list, which is widened to it.
+// Puts a number at an index of a list, which is widened to it.
 fn put_number(list: &mut Vec<u64>, i: usize, number: u64) -> Result<(), AllocError> {
     'widen: while list.len() <= i {
         list.push(0)?;
@@ -396,7 +396,7 @@ fn put_number(list: &mut Vec<u64>, i: usize, number: u64) -> Result<(), AllocErr
     Ok(())
 }
 
-// Puts the row of a shape at a place of a list, which is widened to it.
+// Puts the row of a shape at an index of a list, which is widened to it.
 fn put_step(list: &mut Vec<Option<ShapeRow>>, i: usize, step: ShapeRow) -> Result<(), AllocError>
     ensures { HasNoOther list.old.items list.new.items i step }
 {
@@ -407,7 +407,7 @@ fn put_step(list: &mut Vec<Option<ShapeRow>>, i: usize, step: ShapeRow) -> Resul
     Ok(())
 }
 
-// Puts the row of a diagram at a place of a list, which is widened to it.
+// Puts the row of a diagram at an index of a list, which is widened to it.
 fn put_row(list: &mut Vec<Option<u64>>, i: usize, row: u64) -> Result<(), AllocError>
     ensures { HasNoOther list.old.items list.new.items i row }
 {

@@ -7,7 +7,7 @@ ghost use Rattle.fv_outside.specs.declared.tasks.Reads.{Reads};
 use fv_outside::Reads;
 use std::alloc::{AllocError, Global};
 
-// List j has the places of the keys that are j, in order.
+// List j has the indices of the keys that are j, in order.
 pub(crate) fn group(alloc: Global, loops: u64, keys: &[u64]) -> Result<Vec<Vec<u64>>, AllocError>
     requires { (k : ℕ) → k < length keys.now → slice_index_or keys.now k 0 < loops }
     ensures { IfOk result (λ v. (vec_len v ≡ loops) × Grouped keys.now loops (length keys.now) v.items) }

@@ -44,7 +44,7 @@ impl Counts {
     }
 }
 
-/// The place of the role in a list of one for each.
+/// The index of the role in a list of one for each.
 pub fn place_of(role: Role) -> usize
     ensures place { result ≡ place_of role }
     ensures bound { result < 5 }

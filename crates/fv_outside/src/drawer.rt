@@ -52,7 +52,7 @@ impl StoredFile {
 /// Where a role reads.
 #[derive(Clone, Copy)]
 pub struct Reading {
-    /// The file's place in the list of files.
+    /// The index of the file in the list of files.
     pub file: usize,
     /// How many of its bytes were taken.
     pub taken: usize,

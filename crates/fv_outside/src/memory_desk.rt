@@ -159,7 +159,7 @@ impl Desk for MemoryDesk {
     }
 }
 
-// The place of the last file of this name.
+// The index of the last file of this name.
 fn place_named(files: &[StoredFile], name: &str) -> Option<usize>
     ensures { MatchOption result (file_named name.now files.now ≡ None)
         (λ i. (i < length files.now) × (file_named name.now files.now ≡ Some (bytes_at files.now i))) }

@@ -31,7 +31,7 @@ fn first_place(edges: &[u64], edge: u64) -> Option<usize>
     edges.iter().position(|e| *e == edge)
 }
 
-// The place of an edge in a list that has it.
+// The index of an edge in a list that has it.
 pub(crate) fn place_of(edges: &[u64], edge: u64) -> usize
     requires { 0 < times edge edges.now }
     ensures { IsPlaceOf edges.now edge result }

@@ -80,7 +80,7 @@ fn copied(alloc: Global, values: &[i32]) -> Result<Vec<i32>, AllocError>
     Ok(numbers)
 }
 
-// The place of the first table that is this list, or the number of tables.
+// The index of the first table that is this list, or the number of tables.
 fn place_of(tables: &[Vec<i32>], values: &[i32]) -> usize
     ensures { result ≡ position_or_len (same_list values.now) (lists_in tables.now) }
 {
@@ -257,7 +257,7 @@ impl Builder {
         requires outputs { All (λ s. s < length self.signals) outputs.now }
         ensures graph { IfOk result (λ g. g ≡ graph_of self outputs.now) }
         ensures whole { OnOk result (IsGraph (graph_of self outputs.now)) }
-        // No signal stands at two places.
+        // No signal stands at two indices.
         ensures shared { OnOk result (AreDistinct self.signals) }
     {
         let signals = self.signals.iter().copied().collect(self.alloc)?;

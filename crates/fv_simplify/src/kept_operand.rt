@@ -8,7 +8,7 @@ ghost use Rattle.fv_simplify.specs.Choices.{selected2 as selected2_of, selected3
 
 use fv_num::Op;
 
-/// The place of the operand that the operation's value is, as far as its first two operands are known to be numbers.
+/// The index of the operand that the operation's value is, as far as its first two operands are known to be numbers.
 pub fn choice(op: Op, first: Option<i32>, second: Option<i32>) -> Option<u64>
     ensures { result ≡ choice_of op (pair first second) }
 {
@@ -19,7 +19,7 @@ pub fn choice(op: Op, first: Option<i32>, second: Option<i32>) -> Option<u64>
     }
 }
 
-// The place of the operand that the value is, where the operation is no selector.
+// The index of the operand that the value is, where the operation is no selector.
 fn either(op: Op, first: Option<i32>, second: Option<i32>) -> Option<u64>
     ensures { result ≡ or_else_of (left_by_of op 1 0 second) (left_by_of op 0 1 first) }
 {
@@ -29,7 +29,7 @@ fn either(op: Op, first: Option<i32>, second: Option<i32>) -> Option<u64>
     }
 }
 
-// The operand that a number at this place leaves.
+// The operand that a number at this index leaves.
 fn left_by(op: Op, place: u64, other: u64, known: Option<i32>) -> Option<u64>
     ensures { result ≡ left_by_of op place other known }
 {
@@ -46,7 +46,7 @@ fn left_by(op: Op, place: u64, other: u64, known: Option<i32>) -> Option<u64>
     }
 }
 
-// Whether the number at this place leaves the other operand as it is.
+// Whether the number at this index leaves the other operand as it is.
 fn is_neutral(op: Op, place: u64, n: i32) -> bool
     ensures { result ≡ is_neutral_of op place n }
 {
@@ -61,7 +61,7 @@ fn is_neutral(op: Op, place: u64, n: i32) -> bool
     }
 }
 
-// Whether the number at this place makes the value 0.
+// Whether the number at this index makes the value 0.
 fn is_absorbing(op: Op, place: u64, n: i32) -> bool
     ensures { result ≡ is_absorbing_of op place n }
 {
