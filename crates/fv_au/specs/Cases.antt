@@ -6,7 +6,7 @@ use Rattle.fv_au.specs.declared.refusal.AuRefusal.{AuRefusal}
 use Rattle.fv_au.specs.declared.refusal.AuRefusal.TheVariants.{AuFormat, AuTruncated}
 use Rattle.fv_au.specs.headline.Reading.{field, bits_of, stated, au}
 
--- N bytes are there
+-- this many bytes are there
 abbrev pub HasBytes : ℕ → List ℕ → Type 0
 HasBytes n bytes = n ≤ length bytes
 
@@ -25,7 +25,7 @@ pub record HasEncoding (bytes : List ℕ) : Type 0 where
   pub there : HasBytes 16 bytes
   pub is : IsEncoding (field 12 bytes)
 
--- a frame may have N samples
+-- a frame may have this many samples
 abbrev pub AreChannels : ℕ → Type 0
 AreChannels n = (1 ≤ n) × (n ≤ MOST_CHANNELS)
 

@@ -15,7 +15,7 @@ use Rattle.fv_au.specs.Reading.{IsAu, layout_of}
 abbrev pub file_bytes : (channels rate bits : ℕ) → List ℤ → List ℕ
 file_bytes channels rate bits samples = head_bytes channels rate bits (length samples * (bits / 8)) ++ flat_map (sample_bytes Au bits) samples
 
--- the head of such a file, of N frames
+-- the head of a whole file of these samples, of this many frames
 abbrev pub head_written : (channels rate bits frames : ℕ) → AuHead
 head_written channels rate bits frames =
     record { channels = channels; rate = rate; bits = bits; data_bytes = Some (data_size channels bits frames); offset = 24 }

@@ -47,12 +47,12 @@ pub record AreLanes (p : PlanView) (block : ℕ) (lanes : Lanes) : Type 0 where
       ≡ past (lane_info p l).history v 0
   pub lists : BeginAsTables p (length p.cells) (lists_of lanes.lists.items)
 
--- what runs the tasks of a plan, for N vectors
+-- what runs the tasks of a plan, for at most this many vectors
 pub record IsRunner (p : PlanView) (most : ℕ) (r : TaskRunner) : Type 0 where
   pub tasks_are : AreTasksOf p most r.tasks
   pub scratch : HaveScratch (parts_of p) r.scratch.items
 
--- what an engine of a plan works with, for N workers, frames a block and frames a vector
+-- what an engine of a plan works with, for these workers, frames of a block and frames of a vector
 pub record AreEngineParts (p : PlanView) (workers block vector : ℕ) (parts : EngineParts) : Type 0 where
   pub lanes : AreLanes p block parts.lanes
   pub held : length parts.held.items ≡ length p.held

@@ -28,7 +28,7 @@ pub record EngineView : Type 0 where
   pub starts : List ℕ
   pub cells : List (List ℤ)
 
--- Each lane has a part, of the length for its history and a block of N frames.
+-- Each lane has a part, of the length for its history and a block.
 pub record HaveLengths (p : PlanView) (block : ℕ) (lengths : List ℕ) : Type 0 where
   pub count : length lengths ≡ length p.lanes
   pub each : (l : ℕ) → l < length p.lanes → IsLaneLength (lane_info p l).history block (slice_index lengths l)
@@ -92,7 +92,8 @@ pub record AreBegun (e : EngineView) (n : ℕ) (s : State) : Type 0 where
   pub tables : s.tables ≡ e.plan.tables
   pub cells : s.cells ≡ e.cells
 
--- the places as it ends: what the region then holds of each lane is what lies after N samples, and the cells have their items
+-- the places as a block of n samples ends: what the region then holds of each lane is what lies after them, and the cells have
+-- their items
 pub record AreEnded (e : EngineView) (n : ℕ) (s : State) : Type 0 where
   pub items : (l : ℕ) → l < length e.plan.lanes → history_in e l ≡ drop n (lane_of s.lanes l).items
   pub cells : s.cells ≡ e.cells

@@ -7,7 +7,7 @@ use Rattle.fv_outside.specs.declared.gate.Line.{Line}
 use Rattle.fv_engine_tasks.specs.headline.Block.{vectors_of}
 use Rattle.fv_engine.specs.Stands.{EngineView}
 
--- the plan's loops and reads, and the vectors of N frames
+-- the plan's loops and reads, and the vectors of a block of these frames
 abbrev pub tasks_told : EngineView → (frames : ℕ) → Tasks
 tasks_told e frames = record { loops = e.plan.loops; vectors = vectors_of frames e.vector; reads = e.plan.reads }
 

@@ -16,7 +16,7 @@ renumbered place (step.Append lane value) = step.Append (place lane) value
 renumbered place (step.Read table arg) = step.Read table arg
 renumbered place (step.Write cells args) = step.Write cells args
 
--- the step's lane is one of N
+-- the step's lane is one of the first lanes
 abbrev pub HasPlace : (lanes : ℕ) → Step → Type 0
 HasPlace lanes (step.Number n) = Unit {0}
 HasPlace lanes (step.Held k) = Unit {0}
@@ -27,12 +27,12 @@ HasPlace lanes (step.Append lane value) = lane < lanes
 HasPlace lanes (step.Read table arg) = Unit {0}
 HasPlace lanes (step.Write cells args) = Unit {0}
 
--- a place is one of the first N lanes, or cells of the loop
+-- a place is one of the first n lanes, or cells of the loop
 abbrev pub is_among : Roles → ℕ → Place → Bool
 is_among r n (OfLane l) = nat_lt l n
 is_among r n (OfCells k) = r.own (OfCells k)
 
--- the first N lanes are the loop's own, and all are loaded; its cells keep their numbers
+-- the first lanes are the loop's own, and all are loaded; its cells keep their numbers
 abbrev pub roles_over : Roles → (own all : ℕ) → Roles
 roles_over r own all = record { own = is_among r own; loaded = λ k. nat_lt k all }
 
@@ -49,7 +49,7 @@ content_over locals f = record {
 abbrev pub IsNamed : Roles → ℕ → Type 0
 IsNamed r l = (r.own (OfLane l) ≡ true) ⊎ (r.loaded l ≡ true)
 
--- Each lane that the loop appends or loads has its new number, and the first N are its own.
+-- Each lane that the loop appends or loads has its new number, and the first ones are its own.
 pub record Places (r : Roles) (place : ℕ → ℕ) (locals : List ℕ) (own : ℕ) : Type 0 where
   pub there : (l : ℕ) → IsNamed r l → place l < length locals
   pub back : (l : ℕ) → IsNamed r l → slice_index locals (place l) ≡ l

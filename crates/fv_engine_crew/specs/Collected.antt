@@ -15,12 +15,12 @@ use Rattle.fv_steal.specs.Parcels.{AreParcelsFrom}
 abbrev pub AreChainParcels : Start → ℕ → List LoopParcel → Type 0
 AreChainParcels k v ps = AreParcelsFrom (λ (p : LoopParcel). p.edge) (λ (p : LoopParcel). p.start.value) k (v * stride (tasks_in k)) (tasks_in k).loops ps
 
--- the writers of all lanes of the plan, lane by lane, after N vectors
+-- the writers of all lanes of the plan, lane by lane, after v vectors
 pub record AreAllWriters (k : Start) (v : ℕ) (ws : List LaneWriter) : Type 0 where
   pub count : length ws ≡ length k.plan.now.lanes
   pub each : (l : ℕ) (d : LaneWriter) → l < length k.plan.now.lanes → IsWriterOf k l v (slice_index_or ws l d)
 
--- the lists of all cells of the plan, by number, after N vectors
+-- the lists of all cells of the plan, by number, after v vectors
 pub record AreAllCells (k : Start) (v : ℕ) (lists : List (Vec ℤ Global)) : Type 0 where
   pub count : length lists ≡ length k.plan.now.cells
   pub each : (f : Content) → IsContentOf k f → (i : ℕ) → i < length k.plan.now.cells → list_at (lists_of lists) i ≡ f.cells i (upto k v)

@@ -111,7 +111,7 @@ lanes_seen (many.Many ss) = ss.items
 abbrev pub list_room : ℕ → ℕ
 list_room n = if nat_lt n 3 then 0 else n
 
--- empty lists, with room for N
+-- empty lists, each with this room
 pub record AreRoomy (lists : List (Vec SeenLane)) (room : ℕ) : Type 0 where
   pub empty : (i : ℕ) (d : Vec SeenLane) → i < length lists → (slice_index_or lists i d).items ≡ []
   pub roomy : (i : ℕ) (d : Vec SeenLane) → i < length lists → room ≤ vec_capacity (slice_index_or lists i d)
@@ -126,8 +126,8 @@ pub record AreCellsOf (k : Start) (j v : ℕ) (c : LoopCells) : Type 0 where
   pub holds : (f : Content) → IsContentOf k f → (i : ℕ) → i < length k.plan.now.cells → (cells_info k.plan.now i).owner ≡ j
       → list_at (cells_of c) i ≡ f.cells i (upto k v)
 
--- What loop j hands on after v of its vectors, with N lists more than the readers of its later vectors take: its writers and cells,
--- room for the seen lanes of its sources, scratch for its code, and the lists.
+-- What loop j hands on after v of its vectors: its writers and cells, room for the seen lanes of its sources, scratch for its code,
+-- and lists. There are `more` lists more than the readers of its later vectors take.
 pub record AreHandedOn (k : Start) (j v more : ℕ) (w : Writers) : Type 0 where
   pub writers : AreWritersOf k (own_lanes k.plan.now j) v w.lanes.own.items
   pub cells : AreCellsOf k j v w.lanes.cells

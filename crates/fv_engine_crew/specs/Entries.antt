@@ -6,12 +6,12 @@ use Rattle.fv_engine_crew.specs.declared.content.Writers.{Writers}
 use Rattle.fv_engine_codes.specs.Plans.{own_lanes}
 use Rattle.fv_engine_crew.specs.Contents.{tasks_in, AreWritersOf, AreHandedOn}
 
--- each loop's writers, loop by loop, after N vectors
+-- each loop's writers, loop by loop, after v vectors
 pub record AreLoopsWriters (k : Start) (v : ℕ) (ws : List (Box Writers)) : Type 0 where
   pub count : length ws ≡ (tasks_in k).loops
   pub each : (j : ℕ) (d : Box Writers) → j < (tasks_in k).loops → AreHandedOn k j v 0 (slice_index_or ws j d).value
 
--- each loop's lane writers, loop by loop, after N vectors
+-- each loop's lane writers, loop by loop, after v vectors
 pub record AreLoopsLanes (k : Start) (v : ℕ) (ws : List (Box Writers)) : Type 0 where
   pub count : length ws ≡ (tasks_in k).loops
   pub each : (j : ℕ) (d : Box Writers) → j < (tasks_in k).loops → AreWritersOf k (own_lanes k.plan.now j) v (slice_index_or ws j d).value.lanes.own.items

@@ -8,13 +8,13 @@ use Rattle.fv_split_plan.specs.headline.View.{PlanView, lane_info, code_of}
 use Rattle.fv_split_plan.specs.headline.Plans.{PlanStands, IsPlanOf}
 use Rattle.fv_engine.specs.Stands.{EngineView, StandsFor}
 
--- what an engine asks of a plan for N channels
+-- what an engine asks of a plan for these channels
 pub record FitsEngine (channels : ℕ) (p : PlanView) : Type 0 where
   pub loops : 0 < p.loops
   pub inputs : (j i : ℕ) → NamesInput (code_of p j) i → i < channels
   pub histories : (l : ℕ) → l < length p.lanes → (lane_info p l).history ≤ DELAY_BUDGET
 
--- a plan of the graph, which an engine can run for N channels and controls
+-- a plan of the graph, which an engine can run for these channels and controls
 pub record IsPlanned (g : Graph) (channels controls : ℕ) (p : PlanView) : Type 0 where
   pub planned : IsPlanOf g p
   pub fits : FitsEngine channels p

@@ -21,8 +21,8 @@ pub record CanRender (d : Diagram) (controls : List ControlInfo) : Type 0 where
   pub few : inputs d ≤ MOST_CHANNELS
   pub reads : control_bound d ≤ length controls
 
--- A graph of a diagram that can be played, with N inputs and these controls: the diagram has an output, and all its controls
--- are there.
+-- A graph of a diagram that can be played, with these channels and controls: the diagram has an output, and all its controls are
+-- there.
 pub record CanBePlayed (d : Diagram) (g : Graph) (channels : ℕ) (controls : List ControlInfo) : Type 0 where
   pub of : IsGraphOf d (spans_of controls) g
   pub channels_are : channels ≡ inputs d

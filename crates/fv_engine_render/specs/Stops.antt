@@ -38,7 +38,7 @@ pub record IsSetFor (d : Diagram) (cs : List ControlInfo) (s : RunSizes) (r : Re
   pub hears : length r.heard.items ≡ s.block * inputs d
   pub says : length r.said.items ≡ s.block * outputs d
 
--- All is set for a diagram with N inputs and outputs and these controls.
+-- All is set for a diagram with these inputs, outputs and controls.
 pub record IsSetToPlay (d : Diagram) (p : Played) (s : RunSizes) (r : Ready) : Type 0 where
   pub well : IsWellFormed d
   pub inputs_are : p.inputs ≡ inputs d

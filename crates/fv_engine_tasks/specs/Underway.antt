@@ -25,7 +25,7 @@ line_at lines k = slice_index_or lines k no_line
 abbrev pub IsTaskIn : Tasks → Task → Type 0
 IsTaskIn g t = (t.loop_no < g.loops) × (t.vector < g.vectors)
 
--- The journal so far, where N vectors of each loop are done: the lines of the tasks that are done, numbered in order.
+-- The journal so far, where vectors says how many of each loop are done: the lines of the tasks that are done, numbered in order.
 pub record IsSoFar (g : Tasks) (vectors : ℕ → ℕ) (lines : List Line) : Type 0 where
   pub each : (t : Task) → IsTaskIn g t → total (λ line. bit (is_line_of t line)) lines ≡ bit (ltb t.vector (vectors t.loop_no))
   pub only : (k : ℕ) → k < length lines → IsTaskIn g (line_at lines k).task

@@ -6,11 +6,11 @@ use Rattle.fv_rules.specs.headline.Steps.{State, Eval}
 use Rattle.fv_rules.specs.headline.Rules.{wires}
 use Rattle.fv_eval_drawing.specs.Lists.{all_from_right}
 
--- N wires, put from the right
+-- n wires side by side, put from the right
 abbrev pub side_by_side : ℕ → Eval Diagram
 side_by_side n = all_from_right Par (wires n)
 
--- Putting N wires gives this diagram, and changes nothing.
+-- Putting this many wires gives this diagram, and changes nothing.
 pub record IsWired (a : Arena) (count i : ℕ) : Type 0 where
   pub inside : i < count_of a
   pub put : (s : State) → side_by_side count s ≡ Ok (tree_of a i, s)

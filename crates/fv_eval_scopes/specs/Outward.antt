@@ -18,7 +18,7 @@ HasNothing p name env s =
     (w : World) (x : Name) (E : Env) → w.tree ≡ p → scope_in w.scopes env ≡ Some s → IsNamed w name x → ShowsEnv w env E
     → lookup p.tokens E x ≡ lookup p.tokens (outer E) x
 
--- N scopes, from an environment outward to another one, have nothing of a name.
+-- This many scopes, from an environment outward to another one, have nothing of a name.
 abbrev pub SkipsBy : Parsed → List code_scope.Scope → (name count env at : ℕ) → Type 0
 SkipsBy p scopes name zero env at = env ≡ at
 SkipsBy p scopes name (suc n) env at =

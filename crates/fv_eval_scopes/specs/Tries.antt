@@ -13,12 +13,12 @@ abbrev pub child : List Fork → (node bit : ℕ) → ℕ
 child forks zero bit = 0
 child forks (suc i) bit = child_of (slice_get forks i) bit
 
--- where N of a number's bits lead from a node, the lowest one first
+-- where the lowest bits of a number lead from a node, the lowest one first: one bit a level
 abbrev pub found : List Fork → (levels node number : ℕ) → ℕ
 found forks zero node number = node
 found forks (suc n) node number = found forks n (child forks node (number % 2)) (number / 2)
 
--- the nodes of N levels are there
+-- the nodes of this many levels are there
 abbrev pub AreThere : List Fork → (levels node : ℕ) → Type 0
 AreThere forks zero node = Unit {0}
 AreThere forks (suc n) node = (node ≤ length forks) × ((bit : ℕ) → AreThere forks n (child forks node bit))

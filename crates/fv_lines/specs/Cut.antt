@@ -18,14 +18,14 @@ abbrev pub IsChain : GName → GName → List LaneWriter → Type 0
 IsChain γ δ [] = γ ≡ δ
 IsChain γ δ (w ∷ ws) = ((outer_of w).whole ≡ γ) × IsChain (outer_of w).high δ ws
 
--- each lane finds its part in the cells, with a history where its state says, and takes N samples
+-- each lane finds its part in the cells, with a history where its state says, and takes the samples of a block
 pub record MayBegin (shapes : List LaneShape) (states : List LaneState) (frames : ℕ) (cells : List ℤ) : Type 0 where
   pub count : length states ≡ length shapes
   pub room : sum (lengths_by shapes) ≤ length cells
   pub framed : (i : ℕ) (d : LaneShape) → i < length shapes → frames ≤ (slice_index_or shapes i d).block
   pub holds : (i : ℕ) (d : LaneShape) → i < length shapes → Holds (slice_index_or shapes i d) (start_at states i) (part (lengths_by shapes) i cells)
 
--- a lane that begins with the history that a start names in these cells, and takes N samples
+-- a lane that begins with the history that a start names in these cells, and takes the samples of a block
 pub record IsBegun (shape : LaneShape) (start frames : ℕ) (cells : List ℤ) (w : LaneWriter) : Type 0 where
   pub list : list_of w ≡ held shape start cells
   pub written : written_by w ≡ 0

@@ -155,8 +155,8 @@ opening_lanes lengths shapes states frames cells =
 abbrev pub AreFull : List Lane → Type 0
 AreFull lanes = (i : ℕ) → i < length lanes → (lane_of lanes i).room ≡ 0
 
--- these states and the cells hold the end of each lane's list:
--- as many samples as its history, what lies after N samples as the lanes were begun for
+-- These states and the cells hold the end of each lane's list: what lies after the samples that the lanes were begun for, as
+-- many samples as the lane's history.
 abbrev pub HoldNext : Solo → List LaneState → Type 0
 HoldNext s states =
     (i : ℕ) → i < length (lanes_of s)

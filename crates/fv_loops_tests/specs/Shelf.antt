@@ -12,7 +12,7 @@ lane_in s = record { history = s.history; items = take s.written s.samples.items
 abbrev pub state_in : Shelf → State
 state_in s = record { lanes = lane_in s ∷ []; tables = s.table.items ∷ []; cells = s.cells.items ∷ [] }
 
--- the lane begins with one sample and has room for N more, and the lists have items
+-- the lane begins with one sample and has room for count more, and the lists have items
 pub record HasRoom (s : Shelf) (count : ℕ) : Type 0 where
   pub history : s.history ≡ 1
   pub written : s.written ≡ 1

@@ -4,7 +4,7 @@ use Rattle.std.specs.Prelude.{ℕ, ℤ, List}
 pub data Act : Type 0 where
   -- to begin
   Beginning : Act
-  -- for N frames
+  -- for this many frames
   Hearing : (frames : ℕ) → Act
   -- to take these samples
   Saying : (samples : List ℤ) → Act

@@ -90,7 +90,7 @@ after go stay Done = stay
 after go stay (Next x ts) = go x ts
 after go stay (Stop ts) = Err ts
 
--- at most N turns, each with fewer tokens
+-- at most this many turns, each with fewer tokens
 unfoldable pub turns : ℕ → (Tree → List Symbol → Turn) → Tree → List Symbol → Step Tree
 turns zero body x ts = Err ts
 turns (suc k) body x ts = if nat_lt (length ts) k then turns k body x ts else after (turns k body) (Ok (x, ts)) (body x ts)
@@ -105,7 +105,7 @@ turn (Ok x) f = Next (f x.0) x.1
 turn (Err e) f = Stop e
 
 -- ---- what commas separate
--- at most N items, with commas between
+-- at most this many items, with commas between
 unfoldable pub separated : {A : Type 0} → (List Symbol → Step A) → ℕ → List Symbol → Step (List A)
 separated item zero ts = Err ts
 separated item (suc k) ts =
@@ -324,7 +324,7 @@ abbrev pub left_turn : (List Symbol → Step Tree) → Operands → Commas → �
 left_turn part kind comma r start x ts =
     if nat_eq (power_at kind comma ts) r then turn (part (drop 1 ts)) (λ y. Binary start (operator_at ts) x y) else Done
 
--- at most N parts, joined to the right
+-- at most this many parts, joined to the right
 unfoldable pub rights : ℕ → (List Symbol → Step Tree) → Operands → Commas → ℕ → List Symbol → Step Tree
 rights zero part kind comma r ts = Err ts
 rights (suc k) part kind comma r ts =
@@ -474,7 +474,7 @@ with_item others ts (Skip rest) = others rest
 with_item others ts (One x rest) = others rest >>= λ y. Ok (More x y.0, y.1)
 with_item others ts (Fault at) = Err at
 
--- at most N further items
+-- at most this many further items
 unfoldable pub many : ℕ → (List Symbol → Item) → List Symbol → Step Tree
 many zero next ts = Err ts
 many (suc k) next ts = if nat_lt (length ts) k then many k next ts else with_item (many k next) ts (next ts)
@@ -507,7 +507,7 @@ descend inner insides.Patterns ts = listed inner (Parts operands.Patterns) ts
 descend inner insides.Rules ts = listed inner Rules ts
 descend inner insides.Definitions ts = further inner Definitions ts
 
--- with N brackets that may still be opened
+-- the descent with this many brackets that may still be opened
 unfoldable pub within : ℕ → Reader
 within zero what ts = Err ts
 within (suc nesting) what ts = descend (within nesting) what ts

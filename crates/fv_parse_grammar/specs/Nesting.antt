@@ -8,7 +8,7 @@ abbrev pub lowered : ℕ → ℕ
 lowered zero = zero
 lowered (suc n) = n
 
--- never more than the limit, with N open before (this project's profile)
+-- brackets are never open in a greater number than the limit, where some are open before (this project's profile)
 abbrev pub Nests : ℕ → ℕ → List Symbol → Type 0
 Nests limit depth [] = Unit {0}
 Nests limit depth (Open ∷ ts) = (depth + 1 ≤ limit) × Nests limit (suc depth) ts

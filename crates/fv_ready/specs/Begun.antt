@@ -17,7 +17,7 @@ module _ {C : Type 0} where
   parcels_of (None ∷ xs) = parcels_of xs
   parcels_of (Some x ∷ xs) = x ∷ parcels_of xs
 
--- empty lists, with room for N numbers
+-- empty lists, each with room for this many numbers
 abbrev pub AreRoomy : ℕ → List (Vec ℕ) → Type 0
 AreRoomy room [] = Unit {0}
 AreRoomy room (v ∷ vs) = ((v.items ≡ []) × (room ≤ vec_capacity v)) × AreRoomy room vs

@@ -3,7 +3,7 @@ use Rattle.std.specs.Prelude.{◌≡◌, ℕ, zero, suc, List, [], ◌∷◌, �
 use Rattle.fv_num.specs.headline.Words.{wrap}
 use Rattle.fv_top_make.specs.headline.Made.{next_state, sum_of}
 
--- the state after N samples
+-- the state of the noise after this many samples
 abbrev pub state_behind : ℤ → ℕ → ℤ
 state_behind s zero = s
 state_behind s (suc n) = state_behind (next_state s) n

@@ -1,4 +1,4 @@
--- The program that the text of N voices is (this project's profile).
+-- The program that the text of some voices is (this project's profile).
 use Rattle.std.specs.Prelude.{◌≡◌, ℕ, zero, suc, ◌+◌, ◌-◌, ◌*◌, ◌≤◌, [], pos}
 use Rattle.fv_lex.specs.Limits.TheConstants.{MOST_VOICES}
 use Rattle.fv_interval.specs.Op.TheVariants as op
@@ -19,12 +19,12 @@ by p n = Seq (Par (Primitive Wire) (Constant (pos n))) (Primitive p)
 abbrev pub voice : ℕ → Diagram
 voice i = Rec (Primitive (Point op.Add)) (Seq (by Delay (i * 37 + 1)) (Seq (by (Point op.Mul) (i + 3)) (by (Point op.Div) 8)))
 
--- voice i, and N more after it, side by side
+-- voice i, and this many more after it, side by side
 abbrev pub voices_from : ℕ → ℕ → Diagram
 voices_from i zero = voice i
 voices_from i (suc k) = Par (voice i) (voices_from (suc i) k)
 
--- N voices on one input, added up, without controls
+-- the program of this many voices: they stand on one input, are added up, and have no controls
 abbrev pub program_of : ℕ → Compiled
 program_of voices = record { diagram = Split (Primitive Wire) (Merge (voices_from 0 (voices - 1)) (Primitive Wire)); controls = [] }
 

@@ -13,7 +13,7 @@ abbrev pub file_bytes : (channels rate bits : ℕ) → List ℤ → List ℕ
 file_bytes channels rate bits samples =
     let size = length samples * (bits / 8) in head_bytes channels rate bits size ++ flat_map (sample_bytes bits) samples ++ pad_bytes size
 
--- the head of such a file, of N frames
+-- the head of a whole file of these samples, of this many frames
 abbrev pub head_of : (channels rate bits frames : ℕ) → Head
 head_of channels rate bits frames = record { channels = channels; rate = rate; bits = bits; data_bytes = data_size channels bits frames; place = 44 }
 

@@ -89,7 +89,7 @@ pub record IsUnderWay (g : Graph) (o : Offsets) (n : ℕ) (old new : Draft) (ima
   pub copies : (s : ℕ) → s < n → IsImage g new.signals (at images) o (node g s) (at images s)
   pub made : (i : ℕ) → length old.signals ≤ i → i < length new.signals → IsOneOf g o n (slice_index_or new.signals i (Const (pos 0)))
 
--- the tables of g stand after N others
+-- the tables of g stand among others, from number first on
 abbrev pub AreListed : Graph → (first : ℕ) → (tables : List (List ℤ)) → Type 0
 AreListed g first tables = (t : ℕ) → 0 < length (table_of g t) → slice_index_or tables (first + t) [] ≡ table_of g t
 
@@ -101,7 +101,7 @@ pub record IsCopied (g f : Graph) (p : ℕ → ℕ) (o : Offsets) : Type 0 where
   pub definitions : (group k : ℕ) → group < length g.groups → k < length (members g group) → definition f (o.groups + group) k ≡ p (definition g group k)
   pub tables : AreListed g o.tables f.tables
 
--- the numbers after N inputs and controls, and after the groups and tables of a draft
+-- the numbers after these inputs and controls, and after the groups and tables of a draft
 abbrev pub offsets_behind : (inputs controls : ℕ) → Draft → Offsets
 offsets_behind inputs controls d = record { inputs = inputs; controls = controls; groups = length d.groups; tables = length d.tables }
 

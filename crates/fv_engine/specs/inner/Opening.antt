@@ -15,8 +15,7 @@ use Rattle.fv_engine_crew.specs.Ran.{Ran}
 use Rattle.fv_engine.specs.declared.lanes.Lanes.{Lanes}
 use Rattle.fv_engine.specs.declared.runner.TaskRunner.{TaskRunner}
 
--- the places as a block of N frames begins: the lanes that these shapes, states and cells hold, the plan's tables, and the items
--- of the lists
+-- the places as a block begins: the lanes that these shapes, states and cells hold, the plan's tables, and the items of the lists
 abbrev pub opening_over : (tables : List (List ℤ)) → (lengths : List ℕ) → List LaneShape → List LaneState → (frames : ℕ) → (cells : List ℤ)
     → (lists : List (Vec ℤ Global)) → State
 opening_over tables lengths shapes states frames cells lists = record {

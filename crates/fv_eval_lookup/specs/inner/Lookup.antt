@@ -12,7 +12,7 @@ abbrev pub SaysOrPasses : World → Option code_meaning.Meaning → (here beyond
 SaysOrPasses w (Some m) here beyond = ShowsMeaning w m here
 SaysOrPasses w None here beyond = here ≡ beyond
 
--- this is what the definitions of a name in a list make of it, where this is the first one of N
+-- this is what the count definitions of a name in a list make of it, of which first is the first
 abbrev pub IsMade : Parsed → (list first count env : ℕ) → code_meaning.Meaning → Type 0
 IsMade p list first count env made =
     (w : World) (x : Name) (E : Env) (more : List Tree) (other : Meaning) → w.tree ≡ p → list < size_of p → ShowsEnv w env E

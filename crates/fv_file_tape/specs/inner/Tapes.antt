@@ -8,7 +8,7 @@ use Rattle.fv_wav.specs.Stopping.{IsFaultOfInput}
 use Rattle.fv_file_tape.specs.declared.file_tape.Stop.{Stop}
 use Rattle.fv_file_tape.specs.declared.file_tape.Stop.TheVariants as stop
 
--- N bytes could not be taken of the input, at a place: a fault was counted, or fewer are left, all of which were taken.
+-- The next n bytes of the input could not be taken, at a place: a fault was counted, or fewer are left, all of which were taken.
 pub record Misses (n place : ℕ) (old new : DeskState) (e : Stop) : Type 0 where
   pub some : TakesSome Input old new
   pub cause : ((e ≡ stop.Read) × IsFaultOfInput old new)

@@ -39,7 +39,7 @@ more_by n found = option_map (λ m. n + m) found
 abbrev pub bare_underscores : List ℕ → ℕ
 bare_underscores text = if begins is_letter (drop (prefix_len is_underscore text) text) then 0 else prefix_len is_underscore text
 
--- N `_` at the front are known to be no part of a name, or nothing is known
+-- this many `_` at the front are known to be no part of a name; or the number is 0, and nothing is known
 abbrev pub IsBare : ℕ → List ℕ → Type 0
 IsBare n text = 0 < n → n ≡ bare_underscores text
 

@@ -59,7 +59,7 @@ OperandsBelow g i (Member group k) = definition g group k < i
 OperandsBelow g i (Read table r) = r < i
 OperandsBelow g i (Write table w x r) = (w < i) × (x < i) × (r < i)
 
--- the operands of each signal are earlier signals; those of a Member are the definition that it names
+-- each signal's operands are earlier signals, and so is the definition that a Member names
 abbrev pub IsOrdered : Graph → Type 0
 IsOrdered g = (i : ℕ) (d : Signal) → i < length g.signals → OperandsBelow g i (slice_index_or g.signals i d)
 

@@ -30,7 +30,7 @@ with_read j i t =
     if nat_eq i j || was_told (lane_at t.last i) j then t
     else record { reads = t.reads ++ record { reader = j; source = i } ∷ []; last = slice_set t.last i (Some j) }
 
--- a load is of one of N lanes
+-- a load is of one of the first lanes
 abbrev pub LoadsAmong : (lanes : ℕ) → Step → Type 0
 LoadsAmong lanes (step.Number n) = Unit {0}
 LoadsAmong lanes (step.Held k) = Unit {0}

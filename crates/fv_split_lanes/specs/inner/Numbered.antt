@@ -47,7 +47,7 @@ pub record NumberedUpTo (marks : List Bool) (numbers ranks : List ℕ) (n : ℕ)
 abbrev pub AreNumbered : (marks : List Bool) → (numbers ranks : List ℕ) → Numbering → Type 0
 AreNumbered marks numbers ranks p = NumberedUpTo marks numbers ranks (length marks) p
 
--- the marked signals have lanes in N loops: those of the components that have a lane
+-- the marked signals have lanes in these loops: those of the components that have a lane
 pub record AreLooped (g : Graph) (marks : List Bool) (p : Numbering) (loops : ℕ) : Type 0 where
   pub numbers : List ℕ
   pub ranks : List ℕ

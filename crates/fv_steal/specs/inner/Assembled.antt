@@ -37,8 +37,8 @@ pub record AreFrom {C : Type 0} (ps : List (Part C)) (seats : List (WorkerSeat C
   pub long : length ws + k ≡ length ps
   pub each : (i : ℕ) (d : Worker C) → i < length ws → IsFrom ps seats i (get_or ws i d)
 
--- The parts of a crew of N workers, from the last on: the tasks that read no other were dealt to the deques, and then holds on
--- all of them were given out.
+-- The parts of a crew of this many workers, from the last on: the tasks that read no other were dealt to the deques, and then
+-- holds on all of them were given out.
 pub record AreCrewParts {C : Type 0} (g : Tasks) (workers : ℕ) (ps : List (Part C)) : Type 0 where
   pub dealt_to : List TaskDeque
   pub deques : List TaskDeque

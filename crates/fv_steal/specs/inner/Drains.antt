@@ -11,7 +11,7 @@ use Rattle.fv_steal.specs.Crews.{did, took, own_account, IsWorkerOf, IsSame}
 abbrev pub HaveNone : {C : Type 0} → List (Worker C) → Type 0
 HaveNone {C} ws = (i : ℕ) (d : Worker C) → i < length ws → (own_account (get_or ws i d)).lent ≡ 0
 
--- all that lay in the deques of the first N workers was taken, and what was taken was claimed
+-- all that lay in the deques of the first k workers was taken, and what was taken was claimed
 pub record AreDrained {C Key : Type 0} (edge_of : C → ℕ) (key_of : C → Key) (b : Board C Key) (g : Tasks) (k : ℕ) (old new : List (Worker C)) : Type 0 where
   pub count : length new ≡ length old
   pub workers : All (λ w. IsWorkerOf edge_of key_of b w) new

@@ -26,7 +26,7 @@ pub record Keeps {C : Type 0} (old new : Worker C) : Type 0 where
   pub place : place_of new ≡ place_of old
   pub rest : SameRest old new
 
--- worker w has given back all holds but N
+-- worker w has given back all holds but those that are left
 pub record HasGiven {C : Type 0} (w left : ℕ) (old new : List (Worker C)) : Type 0 where
   pub count : length new ≡ length old
   pub took_all : (x : ℕ) → total (λ u. took u x) new ≡ total (λ u. took u x) old
@@ -40,7 +40,7 @@ pub record HoldAll {C : Type 0} (ws : List (Worker C)) : Type 0 where
   pub holds : (i : ℕ) (d : Worker C) → i < length ws → holds_on (get_or ws i d) ≡ places ws
   pub lent : (i : ℕ) (d : Worker C) → i < length ws → (own_account (get_or ws i d)).lent ≡ length ws
 
--- the first N workers gave their holds back
+-- the first k workers gave their holds back
 pub record HaveGiven {C : Type 0} (k : ℕ) (old new : List (Worker C)) : Type 0 where
   pub count : length new ≡ length old
   pub took_all : (x : ℕ) → total (λ u. took u x) new ≡ total (λ u. took u x) old

@@ -23,7 +23,7 @@ rests_of ds = map rest_of ds
 abbrev pub kept_of : TaskDeque → ℕ × List ℕ × List ℕ × (RowsId × Global)
 kept_of d = (room_of d, (account_of d).taken, (account_of d).put, lies_at d)
 
--- holds on the first N deques were given out, and nothing was taken by them
+-- holds on the first k deques were given out, and nothing was taken by them
 pub record HasLent (k : ℕ) (old new : List TaskDeque) (vs : List Victim) : Type 0 where
   pub count : length new ≡ length old
   pub kept : map kept_of new ≡ map kept_of old
@@ -31,7 +31,7 @@ pub record HasLent (k : ℕ) (old new : List TaskDeque) (vs : List Victim) : Typ
   pub holds : map robs vs ≡ take k (map lies_at old)
   pub none : (x : ℕ) → total (λ v. times x (taken_by v)) vs ≡ 0
 
--- to each of N workers a hold on each deque was given out, and nothing was taken by them
+-- to each of k workers a hold on each deque was given out, and nothing was taken by them
 pub record HaveLent (k : ℕ) (old new : List TaskDeque) (vss : List (Vec Victim)) : Type 0 where
   pub count : length new ≡ length old
   pub kept : map kept_of new ≡ map kept_of old

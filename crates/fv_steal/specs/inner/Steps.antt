@@ -24,7 +24,7 @@ pub record HasArrived {C : Type 0} (edges : List ℕ) (old new : View C) : Type 
   pub others : (f : Deed → ℕ) → ((e c : ℕ) → f (Arrived e c) ≡ 0) → done_by f new ≡ done_by f old
   pub arrived : (e : ℕ) → done_by (arrives e) new ≡ done_by (arrives e) old + times e edges
 
--- of the tasks that read others, N were put as arrivals had the count 0
+-- each task that reads others was put as often as arrivals into it had the count 0
 abbrev pub PutAsZeroed : {C : Type 0} → Net → View C → List ℕ → Type 0
 PutAsZeroed net v put = (x : ℕ) → x < net.tasks → 0 < need_count net x → times x put ≡ done_by (zeroes net x) v
 

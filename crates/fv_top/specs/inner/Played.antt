@@ -6,7 +6,7 @@ use Rattle.fv_top_program.specs.headline.Compiled.{Compiled}
 use Rattle.fv_top.specs.headline.Promise.{IsMade}
 use Rattle.fv_top.specs.headline.Played.{make_sizes}
 
--- the blocks of a make, by N workers
+-- the blocks of a make ran, by these workers
 abbrev pub MakeRan : (voices frames workers blocks loops runs : ℕ) → (before after : Option Told) → Type 0
 MakeRan voices frames workers blocks loops runs before after =
     (p : Compiled) × IsMade voices p × RanWhole p.diagram p.controls [] (make_sizes workers frames)

@@ -51,7 +51,7 @@ use Rattle.fv_top_files.specs.Loaded.{held_in}
 abbrev pub samples_of : Incoming → InputSamples
 samples_of h = record { coding = h.coding; channels = h.channels; bits = h.bits; size = h.data_bytes; place = h.place }
 
--- the head of an output of N channels in this format
+-- the head of an output of these channels in this format
 abbrev pub output_head : (channels : ℕ) → Made → OutputHead
 output_head channels f = record { coding = f.coding; channels = channels; rate = f.rate; bits = f.bits; size = f.size }
 

@@ -33,10 +33,11 @@ pub record JobsRun : Type 0 where
 abbrev pub output_at : JobsRun → (k j : ℕ) → Stream
 output_at r k j = column (answer_of (rack_of r.programs) r.changes r.frames) (outputs_of (take k (map part_of r.programs)) + j)
 
--- the columns of job k, whose program is p, and the changes of its controls
+-- the columns of job k, whose program is p
 abbrev pub own_frames : JobsRun → (k : ℕ) → Compiled → List Frame
 own_frames r k p = part_frames (inputs_of (take k (map part_of r.programs))) (inputs p.diagram) r.frames
 
+-- the changes of the controls of job k, whose program is p
 abbrev pub own_changes : JobsRun → (k : ℕ) → Compiled → List Change
 own_changes r k p = changes_of (controls_before (map (λ (q : Compiled). q.controls) r.programs) k) (length p.controls) r.changes
 
