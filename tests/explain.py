@@ -4,6 +4,7 @@ interpreter beside it, and knows of each diagram the forms that made it.
 `explanation(file)` gives the lines for the bytes of a file, and whether it is accepted."""
 import bisect
 import collections
+import os
 import re
 import unicodedata
 
@@ -400,7 +401,21 @@ def unsupported(reading, word):
     return UNSUPPORTED.get(word, f"{word} is not in the integer part of Faust: leave it out, or write it by other forms.")
 
 
+def is_of_library(name):
+    """Whether the library beside this file, or where it is installed, defines this name."""
+    folder = os.path.dirname(os.path.realpath(__file__))
+    for library in (os.path.join(folder, "..", "library"), os.path.join(folder, "library")):
+        for file in os.listdir(library) if os.path.isdir(library) else ():
+            if file.endswith(".dsp"):
+                with open(os.path.join(library, file), encoding="latin-1") as text:
+                    if re.search(rf"^{name}\b", text.read(), re.M):
+                        return True
+    return False
+
+
 def missing(reading, name="process"):
+    if reading.refused.number == 17 and is_of_library(name):
+        return f"The library defines {name}: link it to the program by faustvec-link (in the repository bin/link), as in run <(bin/link p.dsp) in.wav out.wav."
     near = reading.near(name)
     question = "" if near is None else f" Is {reading.spelled(near)} meant, which is defined at {reading.where(near)}?"
     return MEANINGS[reading.refused.number].format(name) + question
