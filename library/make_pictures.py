@@ -27,7 +27,7 @@ check = loaded("check_library", "tests/check-library")
 rows = loaded("rows", "tests/library/rows.py")
 biquad = loaded("biquad_coefficients", "library/biquad_coefficients.py")
 
-LEFT, WIDTH, RIGHT, GAP = 150, 440, 10, 12
+LEFT, WIDTH, RIGHT, GAP = 150, 440, 54, 12
 LOW, HIGH, RATE = 20, 20000, 48000
 COLOURS = [drawing.BLUE, (192, 80, 40), (60, 140, 60), drawing.GREY]
 PALE = (221, 221, 221)
@@ -54,22 +54,36 @@ def curve(picture, y, height, values, colour):
         picture.column(LEFT + x, min(before, now), max(before, now), colour)
 
 
-def level(picture, y, height, value):
-    """A pale line across at this value."""
+def level(picture, y, height, value, text=""):
+    """A pale line across at this value, and at the right what it is."""
     row = y + round((1 - value) * (height - 1))
     for x in range(WIDTH):
         picture.dot(LEFT + x, row, PALE)
+    picture.text(LEFT + WIDTH + 6, row - 3, text)
+
+
+def decibel_levels(picture, y, height, bottom, top):
+    """Pale lines at each 12 dB, of which every other one is named."""
+    for decibels in range(bottom, top + 1, 12):
+        named = f"{decibels} dB" if decibels == 0 else "" if decibels % 24 else str(decibels)
+        level(picture, y, height, (decibels - bottom) / (top - bottom), named)
+
+
+def frequencies(picture, y, height, is_named):
+    """Pale lines at some frequencies, named at the foot."""
+    for frequency, text in ((100, "100 Hz"), (1000, "1 kHz"), (10000, "10 kHz")):
+        x = LEFT + round(math.log(frequency / LOW) / math.log(HIGH / LOW) * (WIDTH - 1))
+        picture.column(x, y, y + height - 1, PALE)
+        if is_named:
+            picture.text(x + 3, y + height - 9, text)
 
 
 def responses(label, programs, top=12, bottom=-48):
     """How loud each frequency comes out of each program, in dB."""
 
     def draw(player, picture, y, height):
-        for decibels in range(bottom, top + 1, 12):
-            level(picture, y, height, (decibels - bottom) / (top - bottom))
-        for frequency in (100, 1000, 10000):
-            at = round(math.log(frequency / LOW) / math.log(HIGH / LOW) * (WIDTH - 1))
-            picture.column(LEFT + at, y, y + height - 1, PALE)
+        decibel_levels(picture, y, height, bottom, top)
+        frequencies(picture, y, height, False)
         for program, colour in zip(programs, COLOURS):
             # Softer than the loudest, so that nothing is clipped.
             answer = play(player, program, [rows.impulse(16384, 8192)])[0]
@@ -81,6 +95,7 @@ def responses(label, programs, top=12, bottom=-48):
                 gain = lines[whole] * (1 - part) + lines[whole + 1] * part
                 values.append((20 * math.log10(max(gain, 1e-6)) - bottom) / (top - bottom))
             curve(picture, y, height, values, colour)
+        frequencies(picture, y + height - 10, 10, True)
 
     return Panel(label, 84, draw)
 
@@ -89,7 +104,8 @@ def waves(label, program, frames, inputs=()):
     """What the program gives over time, over all 16 bits."""
 
     def draw(player, picture, y, height):
-        level(picture, y, height, 0.5)
+        for part, text in ((1, "0 dB"), (0.5, "-6"), (0, ""), (-0.5, "-6"), (-1, "0 dB")):
+            level(picture, y, height, (1 + part * 32768 / 34000) / 2, text)
         for samples, colour in zip(play(player, program, inputs, frames), COLOURS):
             parts = [samples[x * frames // WIDTH : (x + 1) * frames // WIDTH + 1] or [0] for x in range(WIDTH)]
             for x, part in enumerate(parts):
@@ -99,12 +115,14 @@ def waves(label, program, frames, inputs=()):
     return Panel(label, 56, draw)
 
 
-def curves(label, program, inputs, greatest=32768):
-    """What the program gives, from 0 at the foot to the greatest."""
+def curves(label, program, inputs, texts=("0", "16384", "32768")):
+    """What the program gives, from 0 at the foot to 32768, which may stand for other numbers."""
 
     def draw(player, picture, y, height):
+        for at, text in enumerate(texts):
+            level(picture, y, height, at / 2, text)
         for samples, colour in zip(play(player, program, inputs), COLOURS):
-            curve(picture, y, height, [sample / greatest for sample in samples], colour)
+            curve(picture, y, height, [sample / 32768 for sample in samples], colour)
 
     return Panel(label, 84, draw)
 
@@ -113,8 +131,7 @@ def levels(label, programs, bottom=-60):
     """How loud each level comes out, from so many dB to 0, both ways."""
 
     def draw(player, picture, y, height):
-        for decibels in range(bottom, 1, 12):
-            level(picture, y, height, 1 - decibels / bottom)
+        decibel_levels(picture, y, height, bottom, 0)
         steps = [round(32767 * 10 ** (bottom * (1 - x / (WIDTH - 1)) / 20)) for x in range(WIDTH)]
         for program, colour in zip(programs, COLOURS):
             loud = [20 * math.log10(max(abs(sample), 1) / 32767) for sample in play(player, program, [steps])[0]]
@@ -134,6 +151,8 @@ def spectrogram(label, program, frames):
             start = x * (frames - 512) // (WIDTH - 1)
             columns.append([abs(one) for one in drawing.transform([w * s for w, s in zip(weights, samples[start:])])[:256]])
         loudest = max(map(max, columns)) or 1
+        picture.text(LEFT + WIDTH + 6, y, f"{RATE // 4} Hz")
+        picture.text(LEFT + WIDTH + 6, y + height - 7, "0")
         for x, column in enumerate(columns):
             for row in range(height):
                 low, high = ((height - row - k) * 256 // height for k in (1, 0))
@@ -156,16 +175,19 @@ def spectrum(label, program):
                 power[k] += abs(one) ** 2
         for line in range(1, 4):
             level(picture, y, height, line / 4)
+        frequencies(picture, y, height, False)
         decibels = []
         for x in range(WIDTH):
             low, high = (int(LOW * (HIGH / LOW) ** ((x + k * 8) / (WIDTH - 1)) / RATE * size) for k in (0, 1))
             part = power[max(1, low) : max(1, low, min(high, size // 2 - 1)) + 1]
             decibels.append(10 * math.log10(sum(part) / len(part) + 1))
         curve(picture, y, height, [(one - 105) / 48 for one in decibels], drawing.BLUE)
+        frequencies(picture, y + height - 10, 10, True)
 
     return Panel(label, 84, draw)
 
 
+SIGNED = ("-32768", "0", "32767")
 RAMP = [round(32768 * x / (WIDTH - 1)) for x in range(WIDTH)]
 BOTH_WAYS = [round(65535 * x / (WIDTH - 1)) - 32768 for x in range(WIDTH)]
 GATE = [int(20 <= x < 190 or 300 <= x < 310) for x in range(WIDTH)]
@@ -229,7 +251,7 @@ PICTURES = {
     "control": [
         curves("co_smooth co_line", "_ <: _, co_smooth(25), co_line(60)", [STEPS]),
         curves("co_slew co_lag", "_ <: _, co_slew(400, 150), co_lag(10, 60)", [STEPS]),
-        curves("co_hold of a sine", "_ <: _, co_hold(co_pulse(20))", [[16384 + sample // 2 for sample in rows.sine(240, WIDTH)]]),
+        curves("co_hold of a sine", "_ <: _, co_hold(co_pulse(20))", [[16384 + sample // 2 for sample in rows.sine(240, WIDTH)]], SIGNED),
         waves("co_euclid 3 of 8", "co_pulse(480) <: _ * co_euclid(3, 8, co_count(8)) * 30000", 15360),
         waves("co_euclid 5 of 16", "co_pulse(480) <: _ * co_euclid(5, 16, co_count(16)) * 30000", 15360),
         waves("co_divide by 3", "co_pulse(480) : co_divide(3) : *(30000)", 15360),
@@ -247,8 +269,8 @@ PICTURES = {
     "effects": [
         responses("ef_flanger", ["ef_flanger(100, 20 * 4096, 32768, 0)", "ef_flanger(100, 20 * 4096, 32768, -20000)"]),
         responses("ef_phaser", [f"ef_phaser(4, os_step(1000, 48000), 32768, {f})" for f in (0, 20000)]),
-        curves("ef_cubic", "_ <: " + ", ".join(f"(ef_cubic({drive}) : +(32768) : /(2))" for drive in (256, 1024)), [BOTH_WAYS]),
-        curves("ef_crush ef_shape", "_ <: (ef_crush(4) : +(32768) : /(2)), (ef_shape(waveform{-9000, -27000, 0, 27000, 9000}) : +(32768) : /(2))", [BOTH_WAYS]),
+        curves("ef_cubic", "_ <: " + ", ".join(f"(ef_cubic({drive}) : +(32768) : /(2))" for drive in (256, 1024)), [BOTH_WAYS], SIGNED),
+        curves("ef_crush ef_shape", "_ <: (ef_crush(4) : +(32768) : /(2)), (ef_shape(waveform{-9000, -27000, 0, 27000, 9000}) : +(32768) : /(2))", [BOTH_WAYS], SIGNED),
         waves("ef_echo", "ef_echo(2000, 2000, 22000)", 24000, [BURST]),
         waves("ef_tremolo", "os_osc(os_step(400, 48000)) : ef_tremolo(28000, os_step(8, 48000))", 24000),
         waves("ef_string", "en_fall(300, 1 - 1') : en_apply(_, no_noise) : ef_string(500, ef_period(os_step(150, 48000)), 32400)", 24000),
