@@ -43,7 +43,7 @@ RanBlocks workers loops reads vector ns old new =
     IfSome new (λ after. (before : Told) × (old ≡ Some before) × (entries : List BlockEntry) × AreEntries workers loops reads vector ns entries
     × (after.entries ≡ before.entries ++ entries))
 
--- there is room for this many calls, lines and pairs
+-- a gate has room for this many calls, lines and pairs
 pub record HasRoomForRun (room : Room) (blocks runs pairs_told : ℕ) : Type 0 where
   pub calls : blocks ≤ room.calls
   pub lines : runs ≤ room.lines

@@ -37,7 +37,7 @@ abbrev pub is_text : List ℕ → Bool
 is_text [] = false
 is_text (b ∷ bs) = is_quote b && closes bs
 
--- these bytes are a token of the kind
+-- bytes are a token of this kind
 abbrev pub is_token : Kind → List ℕ → Bool
 is_token Name bytes = is_name bytes
 is_token Integer bytes = is_integer bytes

@@ -53,7 +53,7 @@ remainders x y = if is_point y then remainders_by x y.lo else signed_remainders 
 abbrev pub is_natural : Interval → Bool
 is_natural x = int_le (pos 0) x.lo
 
--- of two numbers one of which is not negative, the common bits are no more than that one
+-- the span of `&`: where one of two numbers is not negative, their common bits are at most that one
 abbrev pub conjunctions : Interval → Interval → Interval
 conjunctions x y =
     if is_natural x
@@ -64,7 +64,7 @@ conjunctions x y =
 abbrev pub power_above : ℕ → ℕ
 power_above n = 2 ^ (32 - leading_zeros w32 n)
 
--- of two numbers that are not negative, neither the bits of one nor of the other reach the power of two above both
+-- the span of `|` and `xor`: where two numbers are not negative, the result is below the power of two above both
 abbrev pub disjunctions : Interval → Interval → Interval
 disjunctions x y =
     if is_natural x && is_natural y

@@ -131,7 +131,7 @@ TakesTurn (Checking name) ReadProgram t = t ≡ reads Program
 TakesTurn job Tell t = t ≡ writes Report
 TakesTurn job s t = ⊥
 
--- there is room for all that is written of a role
+-- a desk has room for all that a finished job writes of a role
 abbrev pub HasRoom : Job → DeskState → Role → Type 0
 HasRoom (Playing run) old role = (p : Plays run old.files) → length (written_by (meant p) old role) ≤ old.room role
 HasRoom job old role = (can : CanDo job old.files) → length (written_by (meant_of job old.files can) old role) ≤ old.room role

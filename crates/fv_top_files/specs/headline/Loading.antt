@@ -36,7 +36,7 @@ pub record HasInput (kind : InputKind) (name : Option (List ℕ)) (files : List 
   pub file : found files name ≡ Some bytes
   pub is : source_of kind bytes ≡ says
 
--- of a file with this head, what follows the samples that are read is left
+-- what is left of a file with this head is what follows the samples that are read
 abbrev pub IsRest : Option Incoming → (bytes left : List ℕ) → Type 0
 IsRest None bytes left = Unit {0}
 IsRest (Some h) bytes left = left ≡ drop (h.place + read_bytes h) bytes
@@ -47,7 +47,7 @@ pub record LeavesRest (kind : InputKind) (name : Option (List ℕ)) (files : Lis
   pub input : HasInput kind name files (Ok source)
   pub rest : IsRest source.head source.bytes left
 
--- of a file with this head, no more was read than the samples that are
+-- of a file with this head no more was read than the head and its samples
 abbrev pub IsWithin : Option Incoming → (bytes left : List ℕ) → Type 0
 IsWithin None bytes left = Unit {0}
 IsWithin (Some h) bytes left = (k : ℕ) × (k ≤ read_bytes h) × (left ≡ drop (h.place + k) bytes)

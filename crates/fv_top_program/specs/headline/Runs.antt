@@ -37,7 +37,7 @@ output_at r k j = column (answer_of (rack_of r.programs) r.changes r.frames) (ou
 abbrev pub own_frames : JobsRun → (k : ℕ) → Compiled → List Frame
 own_frames r k p = part_frames (inputs_of (take k (map part_of r.programs))) (inputs p.diagram) r.frames
 
--- the changes of the controls of job k, whose program is p
+-- the changes of the controls of job k, whose program is p, by the job's own numbers
 abbrev pub own_changes : JobsRun → (k : ℕ) → Compiled → List Change
 own_changes r k p = changes_of (controls_before (map (λ (q : Compiled). q.controls) r.programs) k) (length p.controls) r.changes
 
