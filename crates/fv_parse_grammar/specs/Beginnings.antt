@@ -20,8 +20,8 @@ BeginningsAreClosed = (before more : List Symbol) → IsViablePrefix (before ++ 
 abbrev pub ProgramsBegin : Type 0
 ProgramsBegin = (ts : List Symbol) (x : Tree) → SpellsProgram ts x → IsViablePrefix ts
 
--- Where the descent stops at a token, and no more brackets are open before it than may be, no program begins with the tokens up to
--- that one and it (this project's profile).
+-- No program begins with the tokens up to and with the one where the descent stops, if the brackets open before it never pass the
+-- limit (this project's profile).
 abbrev pub StopsWhereNoneGoesOn : Type 0
 StopsWhereNoneGoesOn =
     (limit : ℕ) (before rest : List Symbol) (t : Symbol)

@@ -16,8 +16,8 @@ abbrev pub outside : Operands → ℕ → ℕ
 outside operands.Patterns r = 99
 outside operands.Expressions r = r
 
--- How loosely a token joins what stands before it, in a pattern or not, where commas join or not:
--- an operator of precedence h has 1 + h, a postfix has 1, what a sign would swallow has 0, and what ends every phrase has 99.
+-- How loosely a token joins what stands before it, in a pattern or not, where commas join or not.
+-- An operator of precedence h has 1 + h, a postfix has 1, and what a sign would swallow has 0. What ends every phrase has 99.
 -- (Faust manual, priorities and associations)
 abbrev pub power : Operands → Commas → Symbol → ℕ
 power kind comma (symbols.Name n) = 0
