@@ -15,7 +15,7 @@ use Rattle.fv_au.specs.declared.refusal.AuRefusal.{AuRefusal}
 use Rattle.fv_au.specs.declared.refusal.AuRefusal.TheVariants.{ReadFault, AuFormat, AuTruncated, NoMemory}
 use Rattle.fv_au.proofs.Heads.{head_front}
 
--- N bytes were taken after those that were taken before, of as many as make 24
+-- n bytes were taken after those that were taken before, of as many as make 24
 pub record IsFront (begun : List ℕ) (n : ℕ) (to : List ℕ) (a b : DeskState) : Type 0 where
   pub asked : length begun + length to ≡ 24
   pub few : n ≤ length to

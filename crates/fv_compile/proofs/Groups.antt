@@ -83,7 +83,7 @@ closed_marked d first [] h = h
 closed_marked d first (ms ∷ lists) h = closed_marked (with_members d first ms) (suc first) lists
     (length-set d.closed first true ∙ h ∙ sym (length-set d.groups first ms))
 
--- a draft with N groups and these tables more
+-- a draft with these groups more, by their number, and these tables
 abbrev pub begun_with : Draft → (groups : ℕ) → List (List ℤ) → Draft
 begun_with d n tables = with_tables (with_groups d n) tables
 

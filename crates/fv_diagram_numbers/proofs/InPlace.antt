@@ -13,7 +13,7 @@ use Rattle.fv_diagram.specs.headline.Streams.{wrapped_sum, added, every}
 use Rattle.fv_diagram.proofs.lemmas.Sums.{every_front}
 use Rattle.fv_diagram_numbers.specs.inner.Timeless.{Does, dealing, summing}
 
--- N numbers came, and each place has what it had
+-- this many numbers came, and each place has what it had
 pub record Extends (count : ℕ) (old new : List ℤ) : Type 0 where
   pub long : length new ≡ length old + count
   pub same : (k : ℕ) → argument new k ≡ argument old k

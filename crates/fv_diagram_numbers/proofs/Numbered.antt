@@ -11,7 +11,7 @@ use Rattle.fv_diagram.specs.headline.Streams.{run, last}
 use Rattle.fv_diagram_numbers.specs.headline.Numbers.{at_first, silent}
 use Rattle.fv_diagram_numbers.specs.headline.Heads.{table_numbers}
 
--- N frames without numbers
+-- n frames without numbers
 abbrev pub frames : ℕ → List Frame
 frames n = replicate n []
 
@@ -60,7 +60,7 @@ ran_on m k d n old new out none same more r stands given pushed = record {
       ∙ sym (one_number_more d n none same more);
 }
 
--- N numbers
+-- A table of n numbers has n.
 pub as_many : (d : Diagram) (n : ℕ) → AnswersEach d → length (table_numbers n d) ≡ n
 as_many d n each =
     length-map (run d silent silent (frames n)) (λ (y : Frame). argument y 1) ∙ each silent silent (frames n) ∙ length-replicate n []

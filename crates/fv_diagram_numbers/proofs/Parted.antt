@@ -51,6 +51,6 @@ one_smaller a id rest = omega (arith, some_size (tree_of a id))
 abbrev pub behind : List Diagram → List Diagram × List Diagram → List Diagram × List Diagram
 behind ds c = (ds ++ c.0, c.1)
 
--- The first i parts are among the first ones, and N outputs are still wanted.
+-- The first i parts are among the first ones, and this many outputs are still wanted.
 abbrev pub CutSo : Arena → List ℕ → (i wanted : ℕ) → Type 0
 CutSo a ids i wanted = cut 2 (trees_of a ids) ≡ behind (trees_of a (take i ids)) (cut wanted (trees_of a (drop i ids)))

@@ -89,7 +89,7 @@ pub record IsOver (a : Arena) (id x y : ℕ) (d : Diagram) : Type 0 where
 pub over_two : {a : Arena} {id x y : ℕ} {d : Diagram} → tree_of a id ≡ d → (x < id) × (y < id) → id < count_of a → IsOver a id x y d
 over_two is below there = record { is = is; left = omega (arith, below.0, there); right = omega (arith, below.1, there) }
 
--- N numbers came, from place `at` on
+-- this many numbers came, from place `at` on, and each place has what it had
 pub record HasRoom (at count : ℕ) (ns ms : List ℤ) : Type 0 where
   pub here : at ≡ length ns
   pub long : length ms ≡ length ns + count

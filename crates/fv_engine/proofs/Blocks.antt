@@ -83,7 +83,7 @@ view_with e lanes = record (view_of e) {
   cells = lists_of lanes.lists.items;
 }
 
--- a call of a stored engine: the frames, input and controls of a block, and the tasks with the vectors of N frames
+-- a call of a stored engine: the frames, input and controls of a block, and the tasks with the vectors of n frames
 pub record IsCalled (e : Inside) (v : EngineView) (frames : ℕ) (input controls : List ℤ) (n : ℕ) (t : Graph) : Type 0 where
   pub stored : IsStored e
   pub view_is : view_of e ≡ v

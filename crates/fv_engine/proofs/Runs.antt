@@ -46,7 +46,7 @@ starts {g} {b} {first} {s} {now} {lines} o =
     subst (λ x. IsUnderway g b first x now lines) (sym o.state) (subst (λ y. IsUnderway g b first (opening (net_of g) 1) y lines) (sym o.places_are)
     (subst (λ z. IsUnderway g b first (opening (net_of g) 1) first z) (sym o.none) (opens g b first o.long o.cells)))
 
--- where each lane's list is its history and N samples, no lane takes one more
+-- Where each lane's list is its history and the samples of a block, no lane takes one more.
 pub are_full : (s : Solo) (frames : ℕ) → IsSolo s → frames_in s ≡ frames
     → ((i : ℕ) → i < length (lanes_of s) → length (lane_of (lanes_of s) i).items ≡ (lane_of (lanes_of s) i).history + frames) → AreFull (lanes_of s)
 are_full s frames valid e full = λ i l.

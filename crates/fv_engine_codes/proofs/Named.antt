@@ -61,7 +61,7 @@ has_place p j reads (step.Append lane value) h = (own_seen p j lane h).0
 has_place p j reads (step.Read table arg) h = tt
 has_place p j reads (step.Write cells args) h = tt
 
--- N lanes, and all tables and cells of the plan
+-- the counts of these lanes, and of all tables and cells of the plan
 abbrev pub counts_of : PlanView → (lanes : ℕ) → Counts
 counts_of p lanes = record { lanes = lanes; tables = length p.tables; cells = length p.cells }
 

@@ -55,7 +55,7 @@ may_begin b states cells rows o =
           );
     }
 
--- a writer is of the shape of lane i, with N samples to come
+-- a writer is of the shape of lane i, with the samples of a block to come
 pub record IsOfLane (shapes : List LaneShape) (frames i : ℕ) (w : LaneWriter) : Type 0 where
   pub history : (shape_of w).history ≡ history_at shapes i
   pub len : (shape_of w).len ≡ len_at shapes i

@@ -15,7 +15,7 @@ use Rattle.fv_engine_crew.specs.declared.parcel.LoopParcel.{LoopParcel}
 use Rattle.fv_engine_crew.specs.Collected.{AreChainParcels}
 use Rattle.fv_engine_crew.proofs.ReturnedWriters.{Started}
 
--- N parcels, one for each edge from one on
+-- the parcels, one for each edge from one on, below the loops
 abbrev pub AreFrom : Start → (from loops : ℕ) → List LoopParcel → Type 0
 AreFrom k from loops ps = AreParcelsFrom (λ (p : LoopParcel). p.edge) (λ (p : LoopParcel). p.start.value) k from loops ps
 

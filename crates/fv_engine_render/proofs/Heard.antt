@@ -25,7 +25,7 @@ take_table n all g h =
 
 -- ---- numbers
 
--- N whole frames are in these bytes
+-- The frames in these bytes are as many as whole frames fit into them.
 pub frames_count : (i : InputSamples) (bytes : List ℕ)
     → length (frames_in i.coding (bare i) bytes) ≡ length (present (bare i) bytes) / frame_size i.channels i.bits
 frames_count i bytes = length_table _ _

@@ -35,7 +35,7 @@ planned {g} {channels} {controls} {p} loops histories made = record {
   controls_there = λ k h. made.names.controls_there k (made.of.names.controls k h);
 }
 
--- what a diagram's graph names is there, where N controls are
+-- what a diagram's graph names is there, where there are controls enough
 pub names_only : (d : Diagram) (spans : List Interval) (g : Graph) (controls : ℕ) → IsGraphOf d spans g → control_bound d ≤ controls
     → NamesOnly g (inputs d) controls
 names_only d spans g controls of reads = record {

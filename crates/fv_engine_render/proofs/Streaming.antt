@@ -43,7 +43,7 @@ rows_fit n m w h = let e : n + (m - n) ≡ m = omega (arith, h) in subst (λ (x 
 
 -- ---- the samples
 
--- numbers after a list of N
+-- The n numbers after a list of k are the list that stands there.
 behind : {X : Type 0} (k n : ℕ) (xs ys : List X) → length xs ≡ k → length ys ≡ n → take n (drop k (xs ++ ys)) ≡ ys
 behind k n xs ys e f =
     ap (λ (m : ℕ). take n (drop m (xs ++ ys))) (sym e) ∙ ap (take n) (drop-append_seam xs ys) ∙ ap (λ (m : ℕ). take m ys) (sym f) ∙ take-length ys
@@ -148,7 +148,7 @@ streamed_none b fresh = record {
   fewer = omega arith;
 }
 
--- a block more: n frames that were heard, whose answer is this, in N tasks
+-- a block more: n frames that were heard, whose answer is this, in this many tasks
 pub record Block (b : Start) (r : Come) (next : EngineView) (new : Option Told) (n tasks : ℕ) (piece controls out : List ℤ) : Type 0 where
   pub look : (g : Graph) → ValuesLookBack g
   pub outputs : b.outputs ≡ length b.engine.plan.outputs

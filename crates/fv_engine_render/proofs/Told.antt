@@ -21,7 +21,7 @@ TellsBlock now n old new =
     IfSome new (λ t. (before : Told) × (old ≡ Some before) × (entry : BlockEntry) × IsEntry now n entry
     × (t.entries ≡ before.entries ++ entry ∷ []) × (t.room ≡ room_after before.room entry))
 
--- each line is of one of N workers
+-- each line is of one of these workers
 abbrev AreBy : ℕ → List Line → Type 0
 AreBy workers lines = All (λ (line : Line). line.worker < workers) lines
 
@@ -61,7 +61,7 @@ runs_more loops vector ns n =
 
 -- ---- room
 
--- What a gate that told its list tells, where it had room for N blocks, runs and pairs: the room is less by just these.
+-- What a gate that told its list tells: the room that it had is less by these blocks, runs and pairs.
 pub record KeepsTelling (before : Told) (blocks runs told : ℕ) (new : Option Told) : Type 0 where
   pub after : Told
   pub is : new ≡ Some after

@@ -36,7 +36,7 @@ pub from_both : {T E : Type 0} (r : Result T E) (P Q S : T → Type 0) → ((x :
 from_both (Ok x) P Q S f p q = f x p q
 from_both (Err e) P Q S f p q = tt
 
--- An engine of a plan of the graph, for N channels, which stands for no frames yet.
+-- An engine of a plan of the graph, for these channels, which stands for no frames yet.
 pub record IsReady (g : Graph) (channels : ℕ) (p : PlanView) (e : EngineView) : Type 0 where
   pub planned : IsPlanOf g p
   pub plan : e.plan ≡ p
@@ -77,7 +77,7 @@ ran_graph {g} {channels} {p} {e} ready changes s upto r old new run room =
           (room_of r.blocks e.plan.loops (length e.plan.reads) r.loop_runs old new of.reads.few room);
     }
 
--- A run of N frames of a diagram, whose graph was played.
+-- A run of a diagram whose graph was played, over some frames.
 pub record HasPlayed (d : Diagram) (cs : List ControlInfo) (changes : List Change) (g : Graph) : Type 0 where
   pub frames : ℕ
   pub input : List ℤ

@@ -65,11 +65,11 @@ abbrev pub task_ran : Block → Task → State → State
 task_ran b x state =
     ran (b.plan.loops.code x.loop_no) (argument b.held) (frame_of b.input b.channels) (before b.vector b.frames x.vector) (frames_in b x.vector) state
 
--- its line in the journal, after N others
+-- its line in the journal, after n others
 abbrev pub line_of : Task → (place : ℕ) → Line
 line_of x n = record { task = x; worker = 0; start = 2 * n; finish = 2 * n + 1 }
 
--- it may run, and N vectors are then done
+-- it may run, and the places then hold what they do after `more` vectors of each loop
 abbrev MakesMore : Block → Content → (vectors : ℕ → ℕ) → Task → State → Type 0
 MakesMore b f more x state = MayRunTask b x state × IsLike state (task_ran b x state) × HoldUpTo b f more (task_ran b x state)
 

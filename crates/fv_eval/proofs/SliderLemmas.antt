@@ -49,7 +49,7 @@ Finishes p m n r slider ns =
     (s : ℕ) (k : SliderKind) (l : ℕ) (x0 x1 x2 x3 : Tree) → tree_in p slider ≡ tree.Slider s k l x0 x1 x2 x3
     → Steps p m n r (λ Fs t. given (flat (control (slider_info (slider_kind k) (label_of p.tokens l) ns)) t) Fs)
 
--- what goes on with a slider of which N parameters are done
+-- what goes on with a slider whose first parameters have these numbers
 abbrev pub GoesOn : (p : Parsed) (m n : code_machine.Machine) (r : Result code_focus.Focus EvalRefusal) (slider e : ℕ) (ns : List ℤ) → Type 0
 GoesOn p m n r slider e ns =
     (k : SliderKind) (label : List ℕ) (E : Env) (xs : List Tree) → ShowsSlider (world p m) slider e (length ns) k label E xs

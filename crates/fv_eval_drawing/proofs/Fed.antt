@@ -13,7 +13,7 @@ not_true false n = refl
 pub not_empty : (b : Bool) (n m : ℕ) → b ≡ (n == 0) → b ≡ false → n ≡ m → m ≡ 0 → ⊥
 not_empty b n m e f g z = let r : (0 == 0) ≡ false = subst (λ k. (k == 0) ≡ false) (g ∙ z) (sym e ∙ f) in cc
 
--- N inputs, and no more were given
+-- At most n inputs were given: n is not less than their number k.
 pub not_less : (n k i j : ℕ) → i ≡ n → j ≡ i → k ≤ j → nat_lt n k ≡ false
 not_less n k i j e f h = not_true (nat_lt n k) (λ t. let l = ltb-true n k t in absurd (omega (arith, l, e, f, h)))
 

@@ -12,7 +12,7 @@ use Rattle.fv_diagram.specs.declared.control.ControlInfo.{ControlInfo}
 use Rattle.fv_rules.specs.headline.Steps.{labelled}
 use Rattle.fv_eval_drawing.specs.Controls.{AreLabels}
 
--- the place of the control that was found, which has its number after N others; or none was
+-- the index of the control that was found, whose number is k more; or none was found
 abbrev pub IsFound : ℕ → List ControlInfo → Option ℕ → Option (ℕ × ControlInfo) → Type 0
 IsFound k cs None None = Unit {0}
 IsFound k cs (Some i) (Some kc) = (k + i ≡ kc.0) × (slice_get cs i ≡ Some kc.1)

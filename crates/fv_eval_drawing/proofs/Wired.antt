@@ -15,7 +15,7 @@ use Rattle.fv_eval_drawing.specs.Wires.{AreWires, IsWired, side_by_side}
 use Rattle.fv_eval_drawing.proofs.Arenas.{extends_on}
 use Rattle.fv_eval_drawing.proofs.Turns.{further}
 
--- N wires are put, of at most as many
+-- this many wires are done side by side, at least one and at most the count
 pub record Widens (a0 a : Canvas) (count wire whole done : ℕ) : Type 0 where
   pub adds : AddsDiagrams a0 a
   pub is_wire : Draws a.diagrams wire (Primitive prim.Wire)
@@ -41,7 +41,7 @@ one_more : (k : ℕ) (s : State) → 1 ≤ k → side_by_side (k + 1) s ≡ afte
 one_more zero s l = absurd (omega (arith, l))
 one_more (suc n) s l = let e : suc n + 1 ≡ suc (suc n) = omega arith in ap (λ j. side_by_side j s) e
 
--- after N wires comes what putting one more gives
+-- What k + 1 wires give is what one wire gives beside k of them.
 turned : (a : Arena) (wire whole k : ℕ) (s : State) → Draws a wire (Primitive prim.Wire) → IsWired a k whole → 1 ≤ k
     → side_by_side (k + 1) s ≡ put (Par (tree_of a wire) (tree_of a whole)) s
 turned a wire whole k s d w l =

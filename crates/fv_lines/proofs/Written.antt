@@ -34,7 +34,7 @@ cells_after s x new = put_mid x.place (x.place + x.shape.len - x.place) (cells_i
 abbrev pub written_after : Solo → ℕ → ℕ → List ℕ
 written_after s i count = set (written_in s) i (slice_index (written_in s) i + count)
 
--- the records after N samples more were written of lane i: nothing else differs
+-- the records after n samples more were written of lane i: nothing else differs
 pub record HaveMore (s : Solo) (i n : ℕ) (begun : List BegunLane) : Type 0 where
   pub count : length begun ≡ length s.begun.now
   pub shapes : shapes_begun begun ≡ shapes_begun s.begun.now

@@ -1,4 +1,4 @@
--- Code on a table and cells may run over N samples.
+-- Code on a table and cells may run over any number of samples.
 use Rattle.std.proofs.Common.{◌≡◌, ◌⊎◌, inl, inr, ℕ, zero, suc, ◌+◌, ◌<◌, ◌≤◌, List, [], ◌∷◌, length, refl, sym, ap, ◌∙◌, subst, arith, ℤ}
 use Rattle.std.proofs.lemmas.List.{length-set, length_push, length-take-le}
 use Rattle.fv_loopcode.specs.declared.step.Step.{Step}

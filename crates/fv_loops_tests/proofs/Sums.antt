@@ -1,4 +1,4 @@
--- The running sum over N samples.
+-- The running sum over any number of samples.
 use Rattle.std.proofs.Common.{◌≡◌, ℕ, zero, suc, ◌+◌, ◌-◌, ◌≤◌, [], ◌∷◌, length, refl, sym, ap, ◌∙◌, subst, arith, ℤ, List}
 use Rattle.std.proofs.lemmas.List.{length_push, length-take-le}
 use Rattle.fv_loopcode.specs.declared.step.Step.{Step}
@@ -10,7 +10,7 @@ use Rattle.fv_loops_tests.specs.Codes.{running_sum}
 use Rattle.fv_loops_tests.specs.Shelf.{lane_in, state_in, HasRoom}
 use Rattle.fv_loops_tests.specs.declared.shelf.Shelf.{Shelf}
 
--- a lane with a history of one sample, n samples more, and room up to N
+-- a lane with a history of one sample, n samples more, and room for count in all
 pub record Holds (count n : ℕ) (lane : Lane) : Type 0 where
   pub history : lane.history ≡ 1
   pub long : length lane.items ≡ 1 + n

@@ -19,7 +19,7 @@ pub record Fork : Type 0 where
   pub one : List Symbol
   pub other : List Symbol
 
--- Both are at one place, at the token or before it, with N brackets open; or the one is past the token.
+-- Both are at one place, at the token or before it, with d brackets open; or the one is past the token.
 pub data Same (k : Fork) (d : ℕ) : List Symbol → List Symbol → Type 0 where
   abreast : (p : List Symbol) → d ≤ k.limit → Nests k.limit d p → Same k d (p ++ k.token ∷ k.one) (p ++ k.token ∷ k.other)
   past : {ts us : List Symbol} → length ts ≤ length k.one → Same k d ts us
@@ -137,7 +137,7 @@ unrolled {k = k} {c = c} {from = from} {out = out} {ts = ts} {us = us} {r = r} {
     ]
 
 -- ---- by the first token
--- A token is passed, and N brackets are open after it.
+-- A token is passed, and m brackets are open after it.
 pub record Passing (k : Fork) (d m : ℕ) (t : Symbol) : Type 0 where
   pub passed : (p : List Symbol) → d ≤ k.limit → Nests k.limit d (t ∷ p) → (m ≤ k.limit) × Nests k.limit m p
 
@@ -166,7 +166,7 @@ look_past : {k : Fork} {d e : ℕ} {A : Type 0} {out : A → List Symbol} {t : S
 look_past low (takes m step h) = of_more (h (past (omega arith))) (omega arith)
 look_past low (stays_at h) = h (past low)
 
--- Readers that look at the first token, in lists of at most N.
+-- Readers that look at the first token, in lists of at most n tokens.
 pub looked_among : (n : ℕ) {k : Fork} {d e : ℕ} {A : Type 0} {out : A → List Symbol} (f g : List Symbol → Result A (List Symbol)) → remains out (f []) ≡ []
     → ((t : Symbol) (ts us : List Symbol) → length (t ∷ ts) ≤ n → Looks k d e out t ts us (f (t ∷ ts)) (g (t ∷ us)))
     → {ts us : List Symbol} → length ts ≤ n → Same k d ts us → Agrees k e out ts (f ts) (g us)

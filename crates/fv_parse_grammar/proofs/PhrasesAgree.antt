@@ -28,7 +28,7 @@ run_turn : (body : Tree → List Symbol → Turn) (x : Tree) (all : List Symbol)
 run_turn body x all (Ok z) f e fewer = run_next body x all (f z.0) z.1 e fewer
 run_turn body x all (Err at) f e fewer = run_stop body x all at e
 
--- two loops agree on lists that are shorter than N
+-- two loops agree on lists of fewer than n tokens
 abbrev TurnsAgree : Fork → ℕ → (Tree → List Symbol → Turn) → (Tree → List Symbol → Turn) → ℕ → Type 0
 TurnsAgree k d body body' n = (x y : Tree) (ts us : List Symbol) → length ts < n → Same k d ts us → BothRead k d ts (run body x ts) (run body' y us)
 

@@ -90,7 +90,7 @@ module _ {A : Type 0} (item : List Symbol → Step A) where
       (λ on. let f = drop_fewer ts in separated_step item all x ts e on (omega arith) ∙ rw on refl)
       (λ off. separated_end item all x ts e off ∙ rw off refl)
 
-  -- in lists that are shorter than N
+  -- in lists of fewer than n tokens
   abbrev pub SeparatedAgree : Fork → ℕ → ℕ → Type 0
   SeparatedAgree k d n = (ts us : List Symbol) → length ts < n → Same k d ts us → BothRead k d ts (all_separated item ts) (all_separated item us)
 

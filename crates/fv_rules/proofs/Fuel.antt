@@ -352,7 +352,7 @@ ev_alike n l =
     }
 
 -- ---- evaluation follows its rules
--- with N visits
+-- the state with this many visits left
 abbrev with_visits : ℕ → State → State
 with_visits v s = record s { visits = v }
 

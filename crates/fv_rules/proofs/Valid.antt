@@ -69,7 +69,7 @@ bind_all_does S k slot (suc n) d g =
     let h = valid_grows (Within slot (suc n) S) (Within (suc slot) n (Also slot S)) k k d (next_within S slot n) (omega arith) g in
     bind_does (bind_all_does (Also slot S) k (suc slot) n d h) (λ b m h i. put_does S m (Bind slot b) i)
 
--- N slots from this one on are had
+-- n slots from this one on are had
 abbrev HasSlots : (ℕ → Type 0) → ℕ → ℕ → Type 0
 HasSlots T slot n = (t : ℕ) → slot ≤ t → t < slot + n → T t
 

@@ -157,7 +157,7 @@ cut_valid S k (suc n) [] g = record { head = tt; rest = tt }
 cut_valid S k (suc n) (d ∷ ds) g =
     let c = cut_valid S k (suc n - outputs d) ds g.1 in record { head = (g.0, c.head); rest = c.rest }
 
--- a valid diagram with N outputs
+-- a valid diagram with n outputs
 abbrev Gives : (ℕ → Type 0) → ℕ → ℕ → Diagram → Type 0
 Gives S n k d = IsValid S k d × (outputs d ≡ n)
 

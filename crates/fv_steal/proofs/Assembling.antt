@@ -16,7 +16,7 @@ each_push P [] x h p (suc j) d l = absurd (omega arith)
 each_push P (y ∷ ys) x h p zero d l = h 0 y (omega arith)
 each_push P (y ∷ ys) x h p (suc j) d l = each_push (λ i. P (suc i)) ys x (λ i e q. h (suc i) e (omega arith)) p j d (omega arith)
 
--- a pop of the first N
+-- A pop of the first m items leaves the first m - 1, and gives the one after them.
 pub popped_take : {X : Type 0} (xs now ys : List X) (x : X) (m k : ℕ) → now ≡ take m xs → now ≡ ys ++ x ∷ [] → m ≡ k + 1 → m ≤ length xs
     → (ys ≡ take k xs) × ((d : X) → x ≡ get_or xs k d)
 popped_take {X = X} xs now ys x m k a b e low =

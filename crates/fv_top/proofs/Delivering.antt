@@ -110,7 +110,7 @@ module _ {words : List (List ℕ)} {run : Run} {m : Compiled} {p : Prepared} {a 
   meant_by : (t : IsTrue a.tells) → file_there m p (b.left Input) ≡ written_by (meant (plays_by t)) a Output
   meant_by t = ap (file_on m p) (there_by t) ∙ file_by t (present_in (plays_by t).format (plays_by t).source)
 
-  -- its head states N frames
+  -- its head states the frames of the run
   stated_by : (t : IsTrue a.tells) → ForSome (plays_by t).source.head (λ h. p.sizes.frames ≡ stated_frames h)
   stated_by t h named =
       let q = plays_by t in

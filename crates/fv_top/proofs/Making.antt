@@ -38,7 +38,7 @@ pub only_memory : VoicesAreNotRefused → (voices : ℕ) (e : Refusal) → 1 ≤
 only_memory accepted voices e some few (inl m) = m
 only_memory accepted voices e some few (inr h) = absurd (accepted voices e some few h.1)
 
--- what is heard of the noise of N voices, and the sum of what is given for it
+-- what is heard of the noise of this many voices, and the sum of what is given for it
 pub noise_heard : {start now : Noise} {h s : List ℤ} (voices frames : ℕ) → SumsAddUp → Sounds start now h s → length h ≡ frames → start.state ≡ pos voices
     → start.sum ≡ pos 0 → (h ≡ noise_of voices frames) × (now.sum ≡ sum_of s)
 noise_heard {h = h} {s = s} voices frames add w long state none = (

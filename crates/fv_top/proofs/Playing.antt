@@ -56,7 +56,7 @@ pub coding_is : (head : Option Incoming) → coding_heard (option_map samples_of
 coding_is None = refl
 coding_is (Some h) = refl
 
--- a file whose samples are left to read has N bytes
+-- where the bytes of a file end whose samples are left to read
 pub end_is : (head : Option Incoming) (held : Option (List ℕ)) (bytes left : List ℕ) (i : InputSamples) → IsLeft head held bytes left
     → option_map samples_of head ≡ Some i → held ≡ None → i.place + length left ≡ length bytes
 end_is None held bytes left i l is fresh = absurd cc
@@ -99,7 +99,7 @@ taken_none (Some i) held n before after none t = absurd (none refl)
 rows_few : (n m w : ℕ) → n ≤ m → n * w ≤ m * w
 rows_few n m w h = let e : n + (m - n) ≡ m = omega (arith, h) in subst (λ (x : ℕ). n * w ≤ x * w) e (omega arith)
 
--- of the frames that a head states no more than N bytes are taken
+-- What is taken lies within the frames that a head states, where n is at most their number.
 pub taken_within : (head : Option Incoming) (held : Option (List ℕ)) (bytes left new : List ℕ) (n : ℕ) → IsLeft head held bytes left
     → ForSome head (λ h. n ≤ stated_frames h) → AreTakenOf (option_map samples_of head) held n left new → IsWithin head bytes new
 taken_within None held bytes left new n l few t = tt

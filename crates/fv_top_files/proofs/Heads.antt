@@ -62,7 +62,7 @@ head_stops e p file (inr (inr m)) = inr (inr m)
 
 -- ---- what was taken before, and then
 
--- N bytes of a file were taken, some of them before
+-- n bytes of a file were taken, some of them before
 pub record IsTaken (begun taken left new : List ℕ) (n : ℕ) : Type 0 where
   pub long : length begun + length taken ≡ n
   pub is : left ≡ taken ++ new

@@ -1,4 +1,4 @@
--- The text of N voices is their program, layer by layer.
+-- The text of any number of voices is their program, layer by layer.
 use Rattle.std.proofs.Common.{◌≡◌, ℕ, suc, ◌-◌, ◌≤◌, List, [], ◌∷◌, ◌++◌, Ok, refl, ap, sym, subst, ◌∙◌, arith, append-nil}
 use Rattle.fv_lex.specs.headline.Symbols.{value}
 use Rattle.fv_interval.specs.Interval.{full}

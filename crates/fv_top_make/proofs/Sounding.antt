@@ -17,7 +17,7 @@ pub state_more : (s : ℤ) (n : ℕ) → state_behind s (suc n) ≡ next_state (
 state_more s zero = refl
 state_more s (suc n) = state_more (next_state s) n
 
--- N samples more
+-- The noise of n + m samples is that of n, and then that of m from the state after them.
 pub noise_add : (s : ℤ) (n m : ℕ) → noise_behind s (n + m) ≡ noise_behind s n ++ noise_behind (state_behind s n) m
 noise_add s zero m = let e : zero + m ≡ m = omega arith in ap (noise_behind s) e
 noise_add s (suc n) m =

@@ -1,4 +1,4 @@
--- The tokens of the text of N voices.
+-- The tokens of the text of any number of voices.
 use Rattle.std.proofs.Common.{◌≡◌, ℕ, ◌≤◌, true, List, [], ◌∷◌, ◌++◌, length, codes, Some}
 use Rattle.std.proofs.Common.{refl, sym, subst, arith, length-append, ne_eqb}
 use Rattle.std.specs.List.{list_all}

@@ -26,11 +26,11 @@ use Rattle.fv_top_make.proofs.Tokens.{lexed}
 use Rattle.fv_top_make.proofs.Trees.{tree, process, all_voices, one_voice}
 use Rattle.fv_lex.specs.Limits.TheConstants.{GREATEST_LITERAL, SIZE_LIMIT}
 
--- with N visits left, no controls, no slots and no tables
+-- the state with n visits left, no controls, no slots and no tables
 abbrev pub state : ℕ → State
 state n = record { visits = n; controls = []; slot = 0; tables = 0 }
 
--- N more
+-- a number with k more
 abbrev pub more : ℕ → ℕ → ℕ
 more zero n = n
 more (suc k) n = suc (more k n)
@@ -119,7 +119,7 @@ given_voice digits depth left i n = refl
 stays : LiteralsStay → (n : ℕ) → n ≤ GREATEST_LITERAL → wrap (pos n) ≡ pos n
 stays literals n h = (literals n h).0
 
--- ---- evaluation, in N visits
+-- ---- evaluation, and the visits that it takes
 
 number_gives : (l : Lexed) (depth n left : ℕ) (env : Env)
     → (within (suc depth) l).diagram (Number 10 n) env (state (suc left)) ≡ Ok (Constant (wrap (pos n)), state left)
@@ -163,9 +163,9 @@ module _ (literals : LiteralsStay) where
   given_is : (i : ℕ) → i ≤ 63 → given i ≡ voice i
   given_is i h = rw (delay_number i h, factor_number i h, stays literals 8 (omega arith)) refl
 
-  -- ---- N voices
+  -- ---- the voices
 
-  -- the visits of N voices, before those that are left
+  -- the visits of this many voices, before those that are left
   abbrev pub spent : ℕ → ℕ → ℕ
   spent zero left = left
   spent (suc k) left = more 23 (spent k left)

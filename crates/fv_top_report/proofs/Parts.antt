@@ -32,7 +32,7 @@ pub err_as : (r : Result (Unit {0}) Failed) {xs ys : List ℕ} (a b : DeskState)
     → OnErr r (AppendsPart Report ys a b)
 err_as r a b is h = subst (λ (w : List ℕ). OnErr r (AppendsPart Report w a b)) is h
 
--- a report of N bytes is answered where no call fails and there is room
+-- a report of these bytes is answered where no call fails and there is room
 abbrev pub IsAnsweredWith : Result (Unit {0}) Failed → DeskState → List ℕ → Type 0
 IsAnsweredWith r a w = IsTrue a.tells → IsUnfailing Report a → length (a.written Report) + length w ≤ a.room Report → IsOk r
 

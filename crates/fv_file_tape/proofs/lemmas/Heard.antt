@@ -74,7 +74,7 @@ taken_nothing c bits bytes after same =
 pub rows_fit : (n m w : ℕ) → n ≤ m → n * w ≤ m * w
 rows_fit n m w h = let e : n + (m - n) ≡ m = omega (arith, h) in subst (λ (x : ℕ). n * w ≤ x * w) e (omega arith)
 
--- N samples fit into the bytes
+-- The bytes of n frames fit into those of the most frames.
 pub room_is : (n most w size long all : ℕ) → n ≤ most → long ≡ n * w → most * w * size ≤ all → long * size ≤ all
 room_is n most w size long all few is room =
     let fit = rows_fit n most w few in

@@ -22,7 +22,7 @@ use Rattle.fv_lex.proofs.lemmas.Classes.{digit_range, letter_range, no_letter, n
 use Rattle.fv_lex.proofs.lemmas.Classes.{no_double_high, no_name, no_integer, no_text, no_sign, name_stops}
 use Rattle.fv_base.specs.declared.limits.TheConstants.{GREATEST_LITERAL}
 
--- N bytes at the front of a text are a piece
+-- the first n bytes of a text are a piece
 pub record At (text : List ℕ) (n : ℕ) (kind : Option Kind) : Type 0 where
   pub piece : IsPiece (take n text) (drop n text) kind
   pub some : 0 < n

@@ -60,7 +60,7 @@ items_in t j = held_from t.lengths (first_at t.shapes t.origins j) (count_in t j
 abbrev pub lane_in : Lists → ℕ → Lane
 lane_in t j = record { history = history_at t.shapes j; items = items_in t j; room = t.frames - slice_index t.written j }
 
--- the lists after lane i's part became these cells, with N samples more
+-- the lists after lane i's part became these cells, with n samples more
 abbrev pub with_more : Lists → ℕ → List ℤ → ℕ → Lists
 with_more t i new n = record {
   lengths = t.lengths;

@@ -33,7 +33,7 @@ pub record JobsRun : Type 0 where
 abbrev pub output_at : JobsRun → (k j : ℕ) → Stream
 output_at r k j = column (answer_of (rack_of r.programs) r.changes r.frames) (outputs_of (take k (map part_of r.programs)) + j)
 
--- the columns of job k, whose program is p
+-- the inputs of job k, whose program is p: its part of each frame
 abbrev pub own_frames : JobsRun → (k : ℕ) → Compiled → List Frame
 own_frames r k p = part_frames (inputs_of (take k (map part_of r.programs))) (inputs p.diagram) r.frames
 
@@ -41,7 +41,7 @@ own_frames r k p = part_frames (inputs_of (take k (map part_of r.programs))) (in
 abbrev pub own_changes : JobsRun → (k : ℕ) → Compiled → List Change
 own_changes r k p = changes_of (controls_before (map (λ (q : Compiled). q.controls) r.programs) k) (length p.controls) r.changes
 
--- Each output of a job is at every time what the job's own program answers, alone on its own columns and under its own changes.
+-- Each output of a job is at every time what the job's own program answers, alone on its own inputs and under its own changes.
 abbrev pub AnswerAlone : JobsRun → Type 0
 AnswerAlone r =
     (k : ℕ) (d : Compiled) → k < length r.programs →

@@ -56,7 +56,7 @@ none_behind begun left m e h =
     rw (lt-leb (length begun + m) (length (begun ++ left)) (omega (arith, length-append begun left, n.0)))
     (ap (λ (k : ℕ). Err (WaveTruncated k)) (zero-add (length (begun ++ left)) ∙ length-append begun left) ∙ ap (λ (x : WaveRefusal). Err x) (sym n.1))
 
--- a buffer of N bytes that holds them, and then others
+-- A buffer of this size that begins with these bytes, and is filled up after them, holds both lists.
 pub filled_behind : (size : ℕ) (begun front zeros to : List ℕ) → length begun ≤ size → front ≡ begun → length zeros ≡ size
     → put_mid (length begun) (size - length begun) (front ++ drop (length begun) zeros) to ≡ begun ++ to
 filled_behind size begun front zeros to few is long =

@@ -49,7 +49,7 @@ begin_block-behind-requires-clause-named g c =
 within_room : (n block width : ℕ) (xs : List ℤ) → n ≤ block → length xs ≡ block * width → n * width ≤ length xs
 within_room n block width xs short room = let fit = rows_fit n block width short in omega (arith, fit, room)
 
--- N are taken of it
+-- The first n frames of a block's list are as long as n frames are wide.
 taken_long : (n block width : ℕ) (xs : List ℤ) → n ≤ block → length xs ≡ block * width → length (take (n * width) xs) ≡ n * width
 taken_long n block width xs short room = length-take-le (n * width) xs (within_room n block width xs short room)
 

@@ -3,7 +3,7 @@ use Rattle.fv_outside.specs.headline.Desk.{KeepsFaults}
 use Rattle.fv_outside.specs.Desk.{Takes}
 use Rattle.fv_outside.proofs.transfer.skip.Given as goal
 
--- N bytes were taken
+-- the next bytes were taken, piece by piece, up to the count
 abbrev pub invariant-pieces : goal.invariant-pieces
 invariant-pieces g l =
     let state = g.D.Desk.state in

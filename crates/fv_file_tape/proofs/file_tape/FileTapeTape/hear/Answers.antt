@@ -12,7 +12,7 @@ use Rattle.fv_file_tape.proofs.file_tape.FileTapeTape.hear.Given.{Over}
 use Rattle.fv_file_tape.proofs.file_tape.FileTapeTape.hear.Goals as goal
 use Rattle.fv_file_tape.proofs.file_tape.FileTapeTape.hear.Goals.{After-from-in-None-held}
 
--- N frames more were heard
+-- A tape is one still after n frames more were heard.
 heard_more : (t : FileTape) (n : ℕ) → IsTape t → n ≤ t.stated - t.done → IsTape (record t { done = t.done + n })
 heard_more t n v there =
     let done = v.done in
