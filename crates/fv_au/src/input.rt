@@ -1,6 +1,6 @@
 // The next bytes of the input. A place is how many bytes of the file are before them.
 
-ghost use Rattle.std.specs.Prelude.{◌≡◌, ◌+◌, ◌-◌, ◌^◌, ◌<◌, ◌≤◌, ℕ, List, ◌++◌, length, take, IsTrue, Ok, Err, IfOk, IfErr, OnOk};
+ghost use Rattle.std.specs.Prelude.{◌≡◌, ◌+◌, ◌-◌, ◌^◌, ◌<◌, ◌≤◌, ℕ, List, ◌++◌, length, IsTrue, Ok, Err, IfOk, IfErr, OnOk};
 ghost use Rattle.fv_base.specs.declared.role.Role.TheVariants.{Input};
 ghost use Rattle.fv_outside.specs.headline.Desk.{KeepsFaults};
 ghost use Rattle.fv_outside.specs.Desk.{Takes};
@@ -14,23 +14,6 @@ use crate::head::AuHead;
 use crate::partial_head::judge;
 use crate::refusal::AuRefusal;
 use fv_outside::{Desk, Role, fill, skip};
-
-/// Fills `to` with the next bytes.
-pub fn take_all<D: Desk>(desk: &mut D, place: u64, to: &mut [u8]) -> Result<(), AuRefusal>
-    requires { place + length to.old < 2 ^ 64 }
-    ensures ok { IfOk result (λ _. Passes (length to.new) (to.new ≡ take (length to.new) ((D.state desk.old).left Input))
-        (D.state desk.old) (D.state desk.new)) }
-    ensures err { IfErr result (λ e. AuStops ((length ((D.state desk.old).left Input) < length to.new)
-        × (e ≡ AuTruncated (place + length ((D.state desk.old).left Input)))) (D.state desk.old) (D.state desk.new) e) }
-{
-    let n = fill(desk, Role::Input, to)?;
-    if n < to.len() {
-        return Err(AuRefusal::AuTruncated {
-            place: place + n as u64,
-        });
-    }
-    Ok(())
-}
 
 // Passes over the next `count` bytes.
 fn pass<D: Desk>(desk: &mut D, place: u64, count: u64) -> Result<(), AuRefusal>

@@ -4,11 +4,9 @@ ghost use Rattle.std.specs.Prelude.{◌≡◌, ◌+◌, ◌*◌, ◌/◌, ◌-�
 ghost use Rattle.fv_outside.specs.Acts.{Act, Beginning, Hearing, Saying};
 ghost use Rattle.fv_file_tape.specs.Tapes.{IsTape, Streamed, StopsIn, channels_of, files_of};
 
-use crate::samples::{
-    InputSamples, decode_behind, frame_size, read_samples, write_output_head, write_samples,
-};
+use crate::samples::{InputSamples, decode_behind, read_samples, write_output_head, write_samples};
 use fv_outside::{Desk, Role, Tape};
-use fv_pcm::Coding;
+use fv_pcm::{Coding, frame_size};
 
 /// Why it stops.
 #[derive(Clone, Copy)]
@@ -102,7 +100,8 @@ impl<D: Desk> Tape<D> for FileTape<'_> {
                 Ok(())
             }
             None => {
-                let place = input.place + u64::from(self.done) * u64::from(frame_size(&input));
+                let place = input.place
+                    + u64::from(self.done) * u64::from(frame_size(input.channels, input.bits));
                 let count = to.len() * (input.bits / 8) as usize;
                 match read_samples(
                     desk,

@@ -16,8 +16,8 @@ ghost use Rattle.fv_file_tape.specs.inner.Tapes.{Misses};
 
 use crate::file_tape::{OutputHead, Stop};
 use fv_au::{write_au_frames, write_au_head};
-use fv_outside::{Desk, Role, fill};
-use fv_pcm::{Coding, decode};
+use fv_outside::Desk;
+use fv_pcm::{Coding, decode, frame_size};
 use fv_wav::{WriteRefusal, write_frames, write_head};
 
 /// Where the samples of an input lie.
@@ -35,22 +35,13 @@ pub struct InputSamples {
     pub place: u64,
 }
 
-/// The bytes of a frame.
-pub(crate) fn frame_size(input: &InputSamples) -> u32
-    requires { IsInput input.now }
-    ensures size { result ≡ frame_size input.now.channels input.now.bits }
-    ensures few { result ≤ 1024 }
-{
-    input.channels * (input.bits / 8)
-}
-
 /// Fills `to` with the samples that follow the first `frames` frames of these bytes.
 pub(crate) fn decode_behind(input: &InputSamples, frames: u32, bytes: &[u8], to: &mut [i32])
     requires input { IsInput input.now }
     requires there { frames * frame_size input.now.channels input.now.bits + length to.old * (input.now.bits / 8) ≤ length bytes.now }
     ensures { to.new ≡ samples_in input.now.coding input.now.bits (length to.new) (drop (frames * frame_size input.now.channels input.now.bits) bytes.now) }
 {
-    let start = frames as usize * frame_size(input) as usize;
+    let start = frames as usize * frame_size(input.channels, input.bits) as usize;
     let end = start + to.len() * (input.bits / 8) as usize;
     decode(input.coding, input.bits, &bytes[start..end], to);
 }
@@ -72,7 +63,7 @@ pub(crate) fn read_samples<D: Desk>(
         (to.new ≡ samples_in coding bits (length to.new) ((D.state desk.old).left Input)) (D.state desk.old) (D.state desk.new)) }
     ensures err { IfErr result (Misses (length to.new * (bits / 8)) place (D.state desk.old) (D.state desk.new)) }
 {
-    let n = match fill(desk, Role::Input, bytes) {
+    let n = match fv_pcm::read_samples(desk, coding, bits, bytes, to) {
         Ok(n) => n,
         Err(_) => return Err(Stop::Read),
     };
@@ -81,7 +72,6 @@ pub(crate) fn read_samples<D: Desk>(
             place: place + n as u64,
         });
     }
-    decode(coding, bits, bytes, to);
     Ok(())
 }
 

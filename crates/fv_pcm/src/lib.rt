@@ -6,8 +6,10 @@ mod coding;
 mod decoder;
 mod encoder;
 mod laws;
+mod reader;
 
-pub use coding::Coding;
+pub use coding::{Coding, frame_size};
 pub use decoder::{decode, decoded};
 pub use encoder::{data_length, encode};
 pub use laws::{sample_is_read_again, samples_are_read_again, samples_follow};
+pub use reader::read_samples;

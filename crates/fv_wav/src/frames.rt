@@ -9,10 +9,9 @@ ghost use Rattle.fv_wav.specs.Stopping.{Passes, Stops};
 ghost use Rattle.fv_wav.specs.Samples.{samples_in, whole_bytes};
 
 use crate::head::Head;
-use crate::input::take_all;
 use crate::refusal::WaveRefusal;
 use fv_outside::Desk;
-use fv_pcm::Coding;
+use fv_pcm::{Coding, read_samples};
 
 /// Fills `to` with the next whole frames of the input, through `bytes`. A place is how many bytes of the file were taken.
 pub fn read_frames<D: Desk>(
@@ -35,29 +34,13 @@ pub fn read_frames<D: Desk>(
     ensures err { IfErr result (λ e. Stops ((length ((D.state desk.old).left Input) < length to.new * (head.now.bits / 8))
         × (e ≡ WaveTruncated (place + length ((D.state desk.old).left Input)))) (D.state desk.old) (D.state desk.new) e) }
 {
-    let size = (head.bits / 8) as usize;
-    let n = to.len() * size;
-    read_samples(desk, head.bits, place, &mut bytes[..n], to)
-}
-
-// Fills `to` with the next samples; `bytes` has just their length.
-fn read_samples<D: Desk>(
-    desk: &mut D,
-    bits: u32,
-    place: u64,
-    bytes: &mut [u8],
-    to: &mut [i32],
-) -> Result<(), WaveRefusal>
-    requires bits { is_sample_width bits ≡ true }
-    requires high { place < 2 ^ 63 }
-    requires room { length bytes.old ≡ length to.old * (bits / 8) }
-    ensures ok { OnOk result (Passes (length to.new * (bits / 8))
-        (to.new ≡ samples_in bits (length to.new) ((D.state desk.old).left Input)) (D.state desk.old) (D.state desk.new)) }
-    ensures err { IfErr result (λ e. Stops ((length ((D.state desk.old).left Input) < length to.new * (bits / 8))
-        × (e ≡ WaveTruncated (place + length ((D.state desk.old).left Input)))) (D.state desk.old) (D.state desk.new) e) }
-{
-    take_all(desk, place, bytes)?;
-    decode(bits, bytes, to);
+    let count = to.len() * (head.bits / 8) as usize;
+    let n = read_samples(desk, Coding::Wave, head.bits, &mut bytes[..count], to)?;
+    if n < count {
+        return Err(WaveRefusal::WaveTruncated {
+            place: place + n as u64,
+        });
+    }
     Ok(())
 }
 
