@@ -346,11 +346,12 @@ TABLES = {
     "size": "A table has at least one number: make the size, the first stream at time 0, 1 or more.",
     "primitive": "This word is no table yet: it stands alone on the right of a :, as in (waveform{1,2}, _ : rdtable) : f.",
 }
+FAUST_LIBRARIES = "Faust's libraries are of real numbers: leave this out, and take the names of the library here, which faustvec-link (bin/link) adds."
 UNSUPPORTED = {
     "%": "A label may not take a number in by %: name the control in full, outside of the repetition, and hand it in as a parameter.",
     "^": "There is no power: write x * x, or prod(i, n, x).",
-    "import": "There are no Faust libraries here: write what you use of them in whole numbers.",
-    "library": "There are no Faust libraries here: write what you use of them in whole numbers.",
+    "import": FAUST_LIBRARIES,
+    "library": FAUST_LIBRARIES,
     "component": "A program is one text: copy the other one's definitions into a `with`.",
     "environment": "There are no environments: put the definitions into a `with`, or at the outside.",
     "letrec": "There is no letrec: feed back with ~.",
@@ -387,7 +388,8 @@ def syntax(reading, line, column):
     if not token:
         return "The text ends within a definition: a ; is missing at its end, or a bracket is not closed."
     if token == ".":
-        return "Nothing goes on with a dot here: there are no libraries with prefixes, so define the name in the text itself."
+        text = reading.source.lines[line - 1]
+        return of_faust(re.search(r"\w*$", text[: column - 1])[0] + re.match(r"[.\w]*", text[column - 1 :])[0])
     if token == "=":
         return "A = stands only after what is defined: a ; is missing before its name, or == is meant."
     if token in interpreter.RESERVED:
@@ -401,24 +403,44 @@ def unsupported(reading, word):
     return UNSUPPORTED.get(word, f"{word} is not in the integer part of Faust: leave it out, or write it by other forms.")
 
 
-def is_of_library(name):
-    """Whether the library beside this file, or where it is installed, defines this name."""
-    folder = os.path.dirname(os.path.realpath(__file__))
-    for library in (os.path.join(folder, "..", "library"), os.path.join(folder, "library")):
-        for file in os.listdir(library) if os.path.isdir(library) else ():
+def library():
+    """The names of the library that stands beside this file's folder, or is installed in it, each with its name in Faust's libraries."""
+    folder, names = os.path.dirname(os.path.realpath(__file__)), {}
+    for place in (os.path.join(folder, "..", "library"), os.path.join(folder, "library")):
+        for file in sorted(os.listdir(place)) if os.path.isdir(place) else ():
             if file.endswith(".dsp"):
-                with open(os.path.join(library, file), encoding="latin-1") as text:
-                    if re.search(rf"^{name}\b", text.read(), re.M):
-                        return True
-    return False
+                with open(os.path.join(place, file), encoding="latin-1") as text:
+                    for faust, name in re.findall(r"(?:^// +Faust: (.*)\n(?://.*\n)*)?^(\w+)", text.read(), re.M):
+                        names.setdefault(name, re.sub("`[^`]*`", "", faust))
+    return names
+
+
+LINKED = "link it to the program by faustvec-link (in the repository bin/link), as in run <(bin/link p.dsp) in.wav out.wav."
 
 
 def missing(reading, name="process"):
-    if reading.refused.number == 17 and is_of_library(name):
-        return f"The library defines {name}: link it to the program by faustvec-link (in the repository bin/link), as in run <(bin/link p.dsp) in.wav out.wav."
-    near = reading.near(name)
+    near, known = reading.near(name), library() if reading.refused.number == 17 else {}
+    if name in known:
+        return f"The library defines {name}: {LINKED}"
     question = "" if near is None else f" Is {reading.spelled(near)} meant, which is defined at {reading.where(near)}?"
+    if not question and "_" in name:
+        import difflib
+
+        like = difflib.get_close_matches(name, known, 1, 0.8)
+        question = f" Is {like[0]} of the library meant?" if like else ""
     return MEANINGS[reading.refused.number].format(name) + question
+
+
+def of_faust(name):
+    """What to write for a name of Faust's libraries."""
+    if name == "ma.SR":
+        return "There is no ma.SR: times are in samples, and a frequency stands beside the sample rate, a number that you choose."
+    known = library() if re.fullmatch(r"[a-z]\w*(\.\w+)+", name) else {}
+    found = [ours for ours, faust in known.items() if re.search(rf"\b{re.escape(name)}\b", faust)]
+    if not found:
+        return "Nothing goes on with a dot here: there are no libraries with prefixes, so define the name in the text itself."
+    best = min(found, key=lambda ours: (ours != name.replace(".", "_"), not known[ours].startswith(name), len(known[ours])))
+    return f"There is no {name}: take {best} of the library here, which has another scale, and {LINKED}"
 
 
 def arity(reading, kind, left, right):
