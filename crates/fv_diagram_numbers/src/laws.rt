@@ -2,7 +2,7 @@
 
 ghost use Rattle.fv_diagram_numbers.specs.HeadLaws.{CutsAreFewest, FixedDependsOnNothing};
 
-/// The first parts with so many outputs together are as few as may be, and all of them where they have fewer.
+/// `cut` takes the fewest first parts that have the wanted outputs together, and all parts where they have fewer.
 pub fn cuts_are_fewest()
     ensures { CutsAreFewest }
 {}

@@ -6,7 +6,7 @@ use Rattle.fv_outside.specs.Desk.{Takes}
 use Rattle.fv_pcm.specs.declared.coding.Coding.{Coding}
 use Rattle.fv_pcm.specs.Coded.{samples_in}
 
--- So many bytes were taken of the input, and no fault counted. Where they are those of all samples, the samples are in them; where they
+-- This many bytes were taken of the input, and no fault counted. Where they are those of all samples, the samples are in them; where they
 -- are fewer, none is left.
 pub record HasRead (c : Coding) (bits n : ℕ) (samples : List ℤ) (old new : DeskState) : Type 0 where
   pub bytes : List ℕ

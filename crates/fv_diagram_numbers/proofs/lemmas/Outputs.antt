@@ -1,4 +1,4 @@
--- The outputs of the parts of a diagram, and the first parts that have so many.
+-- The outputs of the parts of a diagram, and the first parts that have a wanted number of outputs.
 use Rattle.std.proofs.Common.{◌≡◌, ◌⊎◌, ◌≤◌, ◌<◌, ℕ, zero, suc, ◌+◌, ◌-◌, List, [], ◌∷◌, ◌++◌, length, take, refl, sym, ap, ◌∙◌, subst, arith, inl, inr}
 use Rattle.fv_diagram.specs.headline.Diagram.{Diagram, Primitive, Constant, Control, Slot, Wave, Table, Bind, Par, Seq, Split, Merge, Rec, outputs}
 use Rattle.fv_diagram_numbers.specs.headline.Heads.{all_outputs, cut, parts}
