@@ -87,4 +87,5 @@ other_vectors p g n c is = record {
   };
   cells = is.cells;
   workers = is.workers;
+  loops = is.loops;
 }

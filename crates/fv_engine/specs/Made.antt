@@ -1,5 +1,5 @@
 -- What an engine is made of.
-use Rattle.std.specs.Prelude.{◌≡◌, ℕ, ◌<◌, List, length, take, ℤ, IfSome}
+use Rattle.std.specs.Prelude.{◌≡◌, ℕ, ◌<◌, ◌≤◌, List, length, take, ℤ, IfSome}
 use Rattle.fv_signal.specs.Frames.{Stream}
 use Rattle.fv_outside.specs.headline.Tasks.{reads_loop}
 use Rattle.fv_graph.specs.Graph.{Graph}
@@ -52,10 +52,10 @@ pub record IsRunner (p : PlanView) (most : ℕ) (r : TaskRunner) : Type 0 where
   pub tasks_are : AreTasksOf p most r.tasks
   pub scratch : HaveScratch (parts_of p) r.scratch.items
 
--- what an engine of a plan works with, for these workers, frames of a block and frames of a vector
+-- what an engine of a plan works with, for at most these workers, for frames of a block and frames of a vector
 pub record AreEngineParts (p : PlanView) (workers block vector : ℕ) (parts : EngineParts) : Type 0 where
   pub lanes : AreLanes p block parts.lanes
   pub held : length parts.held.items ≡ length p.held
   pub runner : IsRunner p (vectors_of block vector) parts.runner
   pub crew : IfSome parts.crew (λ c. IsCrewOf p parts.runner.tasks.tasks c)
-  pub as_many : IfSome parts.crew (λ c. c.workers ≡ workers)
+  pub asked : IfSome parts.crew (λ c. c.workers ≤ workers)

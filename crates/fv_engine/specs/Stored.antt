@@ -39,7 +39,8 @@ pub record HasSizes (p : PlanView) (channels block vector : ℕ) : Type 0 where
   pub inputs : (j i : ℕ) → NamesInput (code_of p j) i → i < channels
 
 -- All that an engine stores fits together. The lanes have the plan's shapes, and there is a list for each of its cells. The tasks
--- are of its loops, as are a crew's codes, and the crew has as many workers as were asked for. The engine stands for some frames.
+-- are of its loops, as are a crew's codes, and the crew has at most as many workers as were asked for. The engine stands for some
+-- frames.
 pub record IsStored (e : Inside) : Type 0 where
   pub sizes : HasSizes e.plan e.sizes.channels e.sizes.block e.sizes.vector
   pub shapes : AreShapes e.plan e.sizes.block e.lanes.shapes.items
@@ -49,5 +50,5 @@ pub record IsStored (e : Inside) : Type 0 where
   pub held_long : length e.held.items ≡ length e.plan.held
   pub crew : IfSome e.crew (λ c. IsCrewOf e.plan e.runner.tasks.tasks c)
   pub some_worker : 1 ≤ e.sizes.workers
-  pub as_many : IfSome e.crew (λ c. c.workers ≡ e.sizes.workers)
+  pub asked : IfSome e.crew (λ c. c.workers ≤ e.sizes.workers)
   pub standing : Standing (view_of e)

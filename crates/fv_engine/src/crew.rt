@@ -1,11 +1,12 @@
 // What several workers need of a plan.
 
-ghost use Rattle.std.specs.Prelude.{◌≡◌, ◌≤◌, IfOk, IfSome};
+ghost use Rattle.std.specs.Prelude.{◌<◌, ◌≤◌, IfOk, IfSome};
 ghost use Rattle.fv_base.specs.declared.limits.TheConstants.{MOST_WORKERS};
 ghost use Rattle.fv_engine_codes.specs.Codes.{AreOfPlan};
 ghost use Rattle.fv_engine.specs.Crews.{IsCrewOf};
 
 use crate::crew_codes::CrewCodes;
+use crate::crew_size::{all_steps, most_workers};
 use fv_engine_codes::{lane_counts, local_codes, place_cells};
 use fv_graph::Tasks;
 use fv_split_plan::Plan;
@@ -22,8 +23,8 @@ fn keep_pages(alloc: Global) {
     let _ = Vec::<u8>::with_capacity(alloc, OWN_PAGES);
 }
 
-/// What `workers` workers need of a plan. One worker needs nothing. Neither does a plan of one loop, since no two of its tasks can
-/// run at once.
+/// What a crew needs of a plan. It has at most `workers` workers, and as many as loops at most, since no more can be at work at once.
+/// One worker needs nothing. Neither does a plan of one loop, since no two of its tasks can run at once.
 pub(crate) fn crew_for(
     alloc: Global,
     plan: &Plan,
@@ -31,9 +32,10 @@ pub(crate) fn crew_for(
     workers: u32,
 ) -> Result<Option<CrewCodes>, AllocError>
     requires of_plan { AreOfPlan plan.now tasks.now.tasks }
+    requires some_loop { 0 < plan.now.loops }
     requires workers { (1 ≤ workers) × (workers ≤ MOST_WORKERS) }
     ensures of_plan { IfOk result (λ crew. IfSome crew (λ c. IsCrewOf plan.now tasks.now.tasks c)) }
-    ensures as_many { IfOk result (λ crew. IfSome crew (λ c. c.workers ≡ workers)) }
+    ensures asked { IfOk result (λ crew. IfSome crew (λ c. c.workers ≤ workers)) }
 {
     if workers == 1 || plan.loops() == 1 {
         return Ok(None);
@@ -46,6 +48,7 @@ pub(crate) fn crew_for(
         codes,
         counts,
         places,
-        workers,
+        workers: most_workers(workers, plan.loops()),
+        steps: all_steps(plan),
     }))
 }

@@ -127,7 +127,7 @@ impl Engine {
     }
 
     /// Plays the next frames of the input under the controls in them, and writes the frames of the output. Several workers run the
-    /// block where memory for it is there, and else one does; the output is the same.
+    /// block where their board is not too large and memory for it is there, and else one does; the output is the same.
     pub fn run_block<R: Threads + Wait + Sync, G: Gate + Sync>(
         &mut self,
         rt: &R,

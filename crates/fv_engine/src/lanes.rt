@@ -4,6 +4,7 @@ ghost use Rattle.fv_pool.specs.Region.{cells_of};
 ghost use Rattle.fv_lines.specs.Solo.{AreLists, AreHeld};
 
 use crate::crew_codes::CrewCodes;
+use crate::crew_size::{has_board, workers_for};
 use crate::over::over;
 use crate::plan_codes::PlanCodes;
 use crate::runner::TaskRunner;
@@ -45,8 +46,8 @@ impl Lanes {
     ghost use Rattle.fv_engine.specs.Crews.{IsCrewOf};
     ghost use Rattle.fv_engine.specs.inner.Opening.{opening_of, MayRun, RanOver, AreSameLanes, IsSameRunner};
 
-    /// Runs a block's tasks over the lanes, by several workers where a crew has codes and memory is there, and else one after
-    /// another. Copies the lanes of the outputs. Returns whether several did.
+    /// Runs a block's tasks over the lanes, by several workers where a crew has codes, their board is not too large and memory is there, and
+    /// else one after another. Copies the lanes of the outputs. Returns whether several did.
     pub(crate) fn run<R: Threads + Wait + Sync, G: Gate + Sync>(
         &mut self,
         rt: &R,
@@ -64,7 +65,7 @@ impl Lanes {
         ensures ran { RanOver runner.old.tasks.tasks (block_of (λ p. parts_of p.plan.now) job.now) job.now.plan.now.plan.now.tables self.old self.new
             runner.new.lines.items job.now.plan.now.plan.now.outputs output.new }
         // By no more workers than there are.
-        ensures who { (n : ℕ) → 1 ≤ n → IfSome crew.now (λ c. c.workers ≡ n) → All (λ (line : Line). line.worker < n) runner.new.lines.items }
+        ensures who { (n : ℕ) → 1 ≤ n → IfSome crew.now (λ c. c.workers ≤ n) → All (λ (line : Line). line.worker < n) runner.new.lines.items }
         ensures alone { result ≡ false → All (λ (line : Line). line.worker ≡ 0) runner.new.lines.items }
         ensures lanes { AreSameLanes self.old self.new }
         ensures runner { IsSameRunner (parts_of job.now.plan.now.plan.now) runner.old runner.new }
@@ -95,7 +96,7 @@ impl Lanes {
         requires output { length output.old ≡ job.now.frames * length job.now.plan.now.plan.now.outputs }
         ensures ran { result ≡ true → RanOver runner.old.tasks.tasks (block_of (λ p. parts_of p.plan.now) job.now) job.now.plan.now.plan.now.tables
             self.old self.new runner.new.lines.items job.now.plan.now.plan.now.outputs output.new }
-        ensures who { result ≡ true → (n : ℕ) → IfSome crew.now (λ c. c.workers ≡ n) → All (λ (line : Line). line.worker < n) runner.new.lines.items }
+        ensures who { result ≡ true → (n : ℕ) → IfSome crew.now (λ c. c.workers ≤ n) → All (λ (line : Line). line.worker < n) runner.new.lines.items }
         ensures left { result ≡ false → let tables = job.now.plan.now.plan.now.tables in
             opening_of tables self.new job.now.frames ≡ opening_of tables self.old job.now.frames }
         ensures untold { result ≡ false → runner.new.lines.items ≡ [] }
@@ -105,6 +106,9 @@ impl Lanes {
         let Some(crew) = crew else {
             return false;
         };
+        if !has_board(&runner.tasks) {
+            return false;
+        }
         // Called for its clause: there is a line for each task.
         let _vectors = runner.tasks.vectors();
         let block = SpreadBlock {
@@ -119,7 +123,7 @@ impl Lanes {
             channels: job.channels,
             vector: job.vector,
             frames: job.frames,
-            workers: crew.workers,
+            workers: workers_for(crew.workers, crew.steps, job.frames),
         };
         run_spread(
             rt,

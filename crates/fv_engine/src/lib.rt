@@ -5,6 +5,7 @@
 mod alone;
 mod crew;
 mod crew_codes;
+mod crew_size;
 mod engine;
 mod error;
 mod hold;

@@ -280,11 +280,11 @@ fn one_loop_runs_alone(rt: HostRuntime) -> Result<(), Fail> {
     Ok(())
 }
 
-// Squares less the square before each, in vectors of two frames, by one worker and by several.
+// Squares less the square before each, in vectors of two frames, by one worker and by several, of which no more than two are at work.
 #[test]
 fn two_loops_by_several_workers(rt: HostRuntime) -> Result<(), Fail> {
     let graph = difference(rt.alloc())?;
-    for workers in [1, 2, 3] {
+    for workers in [1, 2, 3, 16] {
         assert_differences(&rt, rt.alloc(), &graph, workers)?;
     }
     Ok(())
@@ -303,14 +303,14 @@ fn follows_its_source(line: &Line, lines: &[Line]) -> bool {
     true
 }
 
-// Whether the lines of the first block follow their sources, and stand by their starts.
+// Whether the lines of the first block follow their sources, stand by their starts, and are of at most two workers.
 fn is_in_order(recorder: &Recorder) -> bool {
     let Some((_, _, _, lines)) = block_of(recorder, 0) else {
         return false;
     };
     let mut last = 0;
     for line in lines {
-        if line.start < last || !follows_its_source(line, lines) {
+        if line.start < last || line.worker > 1 || !follows_its_source(line, lines) {
             return false;
         }
         last = line.start;

@@ -10,5 +10,5 @@ returns c = record {
       omega (arith, q, c.len.ensures, c.in_ok-held.ensures.len, c.in_ok-held.held.ok.0);
   runner = subst (λ n. IsRunner c.args.plan.now n c.in_ok-runner.runner) c.vectors.ensures.value c.in_ok-runner.ensures;
   crew = c.in_ok-crew.ensures.of_plan;
-  as_many = c.in_ok-crew.ensures.as_many;
+  asked = c.in_ok-crew.ensures.asked;
 }

@@ -145,7 +145,7 @@ invariant_of-self g c =
       held_long = ap length (held_is g b) ∙ many_held call;
       crew = crew_is g d.After-set_vectors c.run-spread.new.runner.tasks c.run-spread.ensures.runner.tasks;
       some_worker = inv.some_worker;
-      as_many = inv.as_many;
+      asked = inv.asked;
       standing = still_standing call (block_is g b) c.run-spread.ensures.lanes c.run-spread.ensures.ran;
     }
 
@@ -182,7 +182,7 @@ returns-clause-told g c =
     let who : by c.deref-2.result.now c.args.self.now.workers =
     subst (λ (x : EngineView). by c.deref-2.result.now x.workers) c.self.view_is
     (subst (λ (x : List Line). by x inside.sizes.workers) (sym c.deref-2.ensures.value)
-    (c.run-spread.ensures.who inside.sizes.workers c.self.invariant.some_worker c.self.invariant.as_many)) in
+    (c.run-spread.ensures.who inside.sizes.workers c.self.invariant.some_worker c.self.invariant.asked)) in
     let is_entry : IsEntry c.args.self.now c.args.frames entry =
     record { tasks = is_same ∙ ap (λ (x : EngineView). tasks_told x c.args.frames) c.self.view_is; ordered = in_order; counted = count; who = who } in
     let by_one : c.is_alone-alone.result ≡ true → All (λ (line : Line). line.worker ≡ 0) c.deref-2.result.now = λ alone.

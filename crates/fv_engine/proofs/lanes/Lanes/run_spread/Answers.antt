@@ -1,4 +1,4 @@
-use Rattle.std.proofs.Common.{◌≡◌, ℕ, ◌<◌, ℤ, Bool, true, false, List, length, refl, ap, ap₂, sym, ◌∙◌, subst, arith}
+use Rattle.std.proofs.Common.{◌≡◌, ℕ, ◌<◌, ◌≤◌, ℤ, Bool, true, false, List, length, refl, ap, ap₂, sym, ◌∙◌, subst, arith}
 use Rattle.std.specs.Prelude.{IfSome}
 use Rattle.std.specs.Global.{Vec}
 use Rattle.std.specs.Vec.{with_items}
@@ -124,5 +124,5 @@ returns-clause-left g c = λ is_false.
 pub returns-clause-who : goal.returns-clause-who
 returns-clause-who g c = λ is_true n workers i d l.
     let low = c.run_spread.ensures.who is_true i d l in
-    let many : c.in-Some.crew.workers ≡ n = subst (λ o. IfSome o (λ (x : CrewCodes). x.workers ≡ n)) c.in-Some.is workers in
-    omega (arith, low, many)
+    let many : c.in-Some.crew.workers ≤ n = subst (λ o. IfSome o (λ (x : CrewCodes). x.workers ≤ n)) c.in-Some.is workers in
+    omega (arith, low, many, c.workers_for.ensures.most)
