@@ -154,12 +154,16 @@ def sounds():
     """What is played, the input, the script and the options."""
     wire, minute, one = "process = _;", b"\1\2" * (44100 * 60), wave(1, 16, 2, b"\1\2")
     gain = "process = _ * %s;" % (CONTROL % 0)
+    echoes = "echo(d,g) = + ~ (@(d-1) : *(g) : /(256)); process = par(i,2,echo(11025,128));"
+    row = "process = 1 : seq(i,4000,(+ ~ _));"
     chunks = (b"JUNK" + struct.pack("<I", 0)) * 4095
     return [
         ("a minute of mono", wire, wave(1, 16, len(minute), minute), None, []),
         ("256 streams", "process = par(i,256,_);", wave(256, 16, 51_200, bytes(51_200)), None, []),
         ("256 streams by 16 workers", "process = par(i,256,+ ~ mem);", wave(256, 16, 5_120_000, bytes(5_120_000)), None, ["--workers=16"]),
         ("a minute of mono, a frame a block", wire, wave(1, 16, len(minute), minute), None, ["--block=1"]),
+        ("two echoes, a frame a block, by 16 workers", echoes, wave(2, 16, 88_204, bytes(88_204)), None, ["--block=1", "--workers=16"]),
+        ("16 rows of 4,000 loops by 16 workers", "\n%%\n".join([row] * 16), b"", None, ["--frames=4096", "--block=4096", "--workers=16"]),
         ("a head that states 4 GB of mono", wire, wave(1, 16, 2**32 - 39), None, []),
         ("a head that states 4 GB of 256 channels", "process = par(i,256,_);", wave(256, 32, 2**32 - 1024), None, []),
         ("a head that states 4 GB, 8 bits to 24", wire, wave(1, 8, 2**31, b"\1\2\3"), None, ["--bits=16"]),
@@ -207,7 +211,8 @@ def main():
                 if data is not None:
                     with open(os.path.join(folder, name), "wb") as file:
                         file.write(data)
-            words = ["au", "p.dsp", "in.wav", "out.wav", *(["--controls=c.txt"] if script is not None else []), *more]
+            command = "rack" if "\n%%\n" in text else "au"
+            words = [command, "p.dsp", "in.wav" if sound else "-", "out.wav", *(["--controls=c.txt"] if script is not None else []), *more]
             used, kib, said = measured(program, folder, words, options.seconds)
             if said.startswith("refused 29") or said.startswith("refused 39"):
                 used, kib, said = measured(program, folder, ["au", "p.dsp", "-", "out.wav", "--frames=2"], options.seconds)
