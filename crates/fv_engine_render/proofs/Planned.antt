@@ -5,9 +5,8 @@ use Rattle.fv_num.specs.headline.Interval.{Interval}
 use Rattle.fv_diagram.specs.headline.Diagram.{Diagram, inputs}
 use Rattle.fv_diagram.specs.Diagram.{control_bound}
 use Rattle.fv_signal.specs.declared.signal.Signal.TheVariants.{Const}
-use Rattle.fv_signal.specs.headline.Value.{Graph}
+use Rattle.fv_signal.specs.headline.Value.{Graph, AreAtMost}
 use Rattle.fv_propagate.specs.headline.Propagated.{NamesOf}
-use Rattle.fv_simplify.specs.headline.Reducible.{AreShort}
 use Rattle.fv_propagate.proofs.lemmas.Named.{control_below}
 use Rattle.fv_split_plan.specs.headline.View.{PlanView}
 use Rattle.fv_split_plan.specs.headline.Plans.{IsPlanOf}
@@ -21,7 +20,7 @@ pub record IsMade (g : Graph) (channels controls : ℕ) (p : PlanView) : Type 0 
   pub of : IsPlanOf g p
   pub some : 1 ≤ length g.outputs
   pub names : NamesOnly g channels controls
-  pub short : AreShort g
+  pub short : AreAtMost DELAY_BUDGET g
 
 pub planned : {g : Graph} {channels controls : ℕ} {p : PlanView} → OutputsNeedLoops g p → HistoriesWithin g p → IsMade g channels controls p
     → IsPlanned g channels controls p

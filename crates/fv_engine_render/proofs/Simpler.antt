@@ -2,24 +2,22 @@
 use Rattle.std.proofs.Common.{◌≡◌, ℕ, ◌<◌, List, length, get_or, refl, ◌∙◌, subst, arith, pos, ℤ, w32, FitsSigned}
 use Rattle.std.proofs.lemmas.Int.{ints}
 use Rattle.std.proofs.lemmas.List.{get_or_default}
+use Rattle.fv_base.specs.declared.limits.TheConstants.{DELAY_LIMIT, DELAY_BUDGET}
 use Rattle.fv_num.specs.headline.Interval.{Interval}
 use Rattle.fv_num.specs.headline.Frames.{Frame, Stream}
 use Rattle.fv_diagram.specs.headline.Diagram.{Diagram}
 use Rattle.fv_signal.specs.declared.signal.Signal.{Signal}
 use Rattle.fv_signal.specs.declared.signal.Signal.TheVariants.{Input, Const, Control, Point, Delay, Back, Member, Read, Write}
-use Rattle.fv_signal.specs.headline.Value.{Graph, IsGraph}
+use Rattle.fv_signal.specs.headline.Value.{Graph, StandsAt, AreAtMost, IsGraph}
 use Rattle.fv_interval.specs.headline.SpanHooks.{control_span}
 use Rattle.fv_interval.specs.headline.Laws.{IsOf}
 use Rattle.fv_propagate.specs.headline.Propagated.{AreTaken, NamesOf, NamesWithin}
-use Rattle.fv_propagate.specs.Propagated as propagated
-use Rattle.fv_simplify.specs.Nodes.{StandsAt}
-use Rattle.fv_simplify.specs.headline.Reducible.{AreShort}
 use Rattle.fv_simplify.specs.Reducible.{AreSmall, IsSimpler}
 use Rattle.fv_engine_render.specs.headline.Plans.{IsGraphOf}
 
 -- no delay of a diagram's graph is longer than an engine keeps
-pub short_graph : (g : Graph) → propagated.AreShort g → AreShort g
-short_graph g h s x by most a = let k = h s x by most a.within a.is in omega (arith, k)
+pub short_graph : (g : Graph) → AreAtMost DELAY_LIMIT g → AreAtMost DELAY_BUDGET g
+short_graph g h s x by most a = let k = h s x by most a in omega (arith, k)
 
 fits : (s : Interval) (z : ℤ) → IsOf s z → FitsSigned w32 z
 fits s z h = omega (arith, ints, h.0.lo_fits, h.0.hi_fits, h.1.above, h.1.below)

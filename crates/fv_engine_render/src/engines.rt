@@ -1,8 +1,8 @@
 // The engine of a graph.
 
 ghost use Rattle.std.specs.Prelude.{◌≡◌, ◌≤◌, IfOk, length};
-ghost use Rattle.fv_base.specs.declared.limits.TheConstants.{MOST_CHANNELS};
-ghost use Rattle.fv_simplify.specs.headline.Reducible.{AreShort};
+ghost use Rattle.fv_base.specs.declared.limits.TheConstants.{DELAY_BUDGET, MOST_CHANNELS};
+ghost use Rattle.fv_signal.specs.headline.Value.{AreAtMost};
 ghost use Rattle.fv_engine_render.specs.Plans.{IsPlanned, FitsEngine, IsNew};
 ghost use Rattle.fv_engine_render.specs.inner.Plans.{NamesOnly};
 ghost use Rattle.fv_engine_render.specs.Render.{CanHave};
@@ -24,7 +24,7 @@ pub(crate) fn plan_of(
 ) -> Result<Plan, AllocError>
     requires some { 1 ≤ length graph.now.outputs }
     requires names { NamesOnly graph.now channels controls }
-    requires short { AreShort graph.now }
+    requires short { AreAtMost DELAY_BUDGET graph.now }
     ensures { IfOk result (IsPlanned graph.now channels controls) }
 {
     // For the prover: a graph with outputs has a loop, and its histories are short enough for an engine.

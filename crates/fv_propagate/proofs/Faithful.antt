@@ -12,7 +12,7 @@ use Rattle.fv_num.specs.headline.Frames.{Frame, Stream, column, table, delayed, 
 use Rattle.fv_num.specs.Frames.{carries}
 use Rattle.fv_signal.specs.declared.signal.Signal.{Signal}
 use Rattle.fv_signal.specs.declared.signal.Signal.TheVariants as signal
-use Rattle.fv_signal.specs.headline.Value.{Graph, members, table_of, clamped, signal_at, value, IsOrdered}
+use Rattle.fv_signal.specs.headline.Value.{Graph, members, table_of, back_by, signal_at, value, IsOrdered}
 use Rattle.fv_num.specs.headline.Tables.{place, read_at, written_at}
 use Rattle.fv_num.proofs.lemmas.Tables.{last_written_same}
 use Rattle.fv_base.specs.headline.Lists.{IsPrefixOf}
@@ -62,17 +62,16 @@ prefixed_same x y a b zero e h = e
 prefixed_same x y a b (suc t) e h = h t (omega arith)
 
 -- a delay by one
-one_back : (x : Stream) (t : ℕ) → back x t (clamped 1 (pos 1)) ≡ delayed x t
-one_back x zero = let e : clamped 1 (pos 1) ≡ pos 1 = grind (arith, ints) in ap (back x 0) e
+one_back : (x : Stream) (t : ℕ) → back x t (pos (back_by 1 (pos 1))) ≡ delayed x t
+one_back x zero = refl
 one_back x (suc t) =
-    let e : clamped 1 (pos 1) ≡ pos 1 = grind (arith, ints) in
     let f : suc t - 1 ≡ t = omega arith in
-    ap (back x (suc t)) e ∙ cond-true (nat_le 1 (suc t)) (x (suc t - 1)) (pos 0) (le-leb 1 (suc t) (omega arith)) ∙ ap x f
+    cond-true (nat_le 1 (suc t)) (x (suc t - 1)) (pos 0) (le-leb 1 (suc t) (omega arith)) ∙ ap x f
 
 module _ (F : Graph) (ordered : IsOrdered F) (X : List Frame) (c : ℕ → Stream) where
   -- each delay goes back as far as its second operand says
   unfoldable pub AreWide : Type 0
-  AreWide = (s x d max : ℕ) → StandsAt F s (signal.Delay x d max) → (t : ℕ) → clamped max (value F d X c t) ≡ value F d X c t
+  AreWide = (s x d max : ℕ) → StandsAt F s (signal.Delay x d max) → (t : ℕ) → pos (back_by max (value F d X c t)) ≡ value F d X c t
 
   pub node_is : (s : ℕ) (n : Signal) (t : ℕ) → StandsAt F s n → value F s X c t ≡ signal_at F X c (λ r. value F r X c) n t
   node_is s n t h = values_are_given F ordered X c s n t h.within ∙ ap (λ y. signal_at F X c (λ r. value F r X c) y t) (h.is n)
@@ -90,7 +89,7 @@ module _ (F : Graph) (ordered : IsOrdered F) (X : List Frame) (c : ℕ → Strea
       let one = put s (signal.Const (pos 1)) in
       let n = signal.Delay x one.0 1 in
       put_gives one.1 n g t
-      ∙ ap (λ y. back (λ u. value F x X c u) t (clamped 1 y)) (put_gives s (signal.Const (pos 1)) (before_put F one.1 n g) t)
+      ∙ ap (λ y. back (λ u. value F x X c u) t (pos (back_by 1 y))) (put_gives s (signal.Const (pos 1)) (before_put F one.1 n g) t)
       ∙ one_back (λ u. value F x X c u) t
 
   pub prefix_gives : (s : Progress) (x y : ℕ) → GoesOn F (put_prefix s x y).1 → (t : ℕ) →

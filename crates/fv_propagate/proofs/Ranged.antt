@@ -16,7 +16,7 @@ use Rattle.fv_num.specs.headline.Spans.{span_of}
 use Rattle.fv_num.proofs.lemmas.Closed.{holds, closed}
 use Rattle.fv_signal.specs.declared.signal.Signal.{Signal}
 use Rattle.fv_signal.specs.declared.signal.Signal.TheVariants.{Const, Control, Point, Delay, Back, Member}
-use Rattle.fv_signal.specs.headline.Value.{Graph, clamped, value, IsOrdered}
+use Rattle.fv_signal.specs.headline.Value.{Graph, back_by, value, IsOrdered}
 use Rattle.fv_diagram.specs.declared.signals.Leaf.{Leaf}
 use Rattle.fv_diagram.specs.declared.signals.Leaf.TheVariants as leaf
 use Rattle.fv_diagram.specs.Hooks.{takes, padded}
@@ -107,8 +107,9 @@ of_delay s z d h =
 short_delay : (s : Interval) → IsDelay s → IsSpan s → unsigned_abs s.hi ≤ DELAY_LIMIT
 short_delay s d h = let e = natural s.hi (omega (arith, ints, d.natural, h.ordered)) in omega (arith, ints, d.short, e)
 
-pub not_clamped : (max : ℕ) (z : ℤ) → IsWithin (upto max) z → clamped max z ≡ z
-not_clamped max z h = let a = h.above in let b = h.below in grind (arith, ints, clamps)
+pub not_clamped : (max : ℕ) (z : ℤ) → IsWithin (upto max) z → pos (back_by max z) ≡ z
+not_clamped max (pos d) h = let b = h.below in grind (arith, ints)
+not_clamped max (negsuc d) h = let a = h.above in absurd (omega (arith, ints, a))
 
 module _ (C : ℕ → Type 0) (F : Graph) (ordered : IsOrdered F) (X : List Frame) (c : ℕ → Stream) (controls L : List Interval) (D : List ℕ) (are : D ≡ amounts L)
     (each : AreDelays L) (held : (k t : ℕ) → IsOf (control_span controls k) (c k t))
@@ -270,7 +271,7 @@ module _ (C : ℕ → Type 0) (F : Graph) (ordered : IsOrdered F) (X : List Fram
       let hd = related_at LiesIn ws vs 1 0 (point (pos 0)) (omega (arith, w)) q in (
         λ t.
             subst (IsOf (hull (span_at vs 0) (point (pos 0)))) (sym (put_gives F ordered X c (passed 1 s) (Delay x d max) g t))
-            (back_of (span_at vs 0) (λ t. value F x X c t) t (clamped max (value F d X c t)) hx),
+            (back_of (span_at vs 0) (λ t. value F x X c t) t (pos (back_by max (value F d X c t))) hx),
         record {
           delays = next_of s u (span_at vs 1) r.delays;
           controls_are = r.controls_are;

@@ -5,6 +5,7 @@ use Rattle.std.proofs.lemmas.Bool.{cases_lt}
 use Rattle.std.proofs.lemmas.Int.{ints}
 use Rattle.std.proofs.lemmas.List.{get_or_default, get_or_past, get_or-map}
 use Rattle.std.proofs.lemmas.List.Elements.{All-get_or, All-from_get_or, All-weaker, All-contains_itself}
+use Rattle.fv_base.specs.declared.limits.TheConstants.{DELAY_LIMIT}
 use Rattle.fv_base.specs.headline.Lists.{IsPrefixOf}
 use Rattle.fv_base.proofs.lemmas.Lists.{prefix_refl, length_table, table_same, table_items, get_or_table}
 use Rattle.fv_num.specs.headline.Frames.{Frame, Stream, frame_at, column, table, carried}
@@ -13,7 +14,8 @@ use Rattle.fv_num.specs.headline.Interval.{Interval, IsSpan, full, point}
 use Rattle.fv_num.specs.SpanLaws.{AreSpans}
 use Rattle.fv_signal.specs.declared.signal.Signal.{Signal}
 use Rattle.fv_signal.specs.declared.signal.Signal.TheVariants.{Input, Const, Control, Point, Delay, Back, Member, Read, Write}
-use Rattle.fv_signal.specs.headline.Value.{Graph, value, IsGraph}
+use Rattle.fv_signal.specs.headline.Value.{Graph, value, AreAtMost, IsGraph}
+use Rattle.fv_signal.specs.Value.{StayWithin}
 use Rattle.fv_share.specs.Drafts.{AreClosed, graph_of}
 use Rattle.fv_diagram.specs.headline.Diagram.{Diagram, inputs, outputs}
 use Rattle.fv_diagram.specs.Diagram.{IsWellFormed, HasNoFreeSlot, HasNumbers, AreNumbers}
@@ -33,8 +35,8 @@ use Rattle.fv_interval.specs.headline.Delays.{delays_of}
 use Rattle.fv_interval.specs.Delays.{AreAccepted}
 use Rattle.fv_interval.proofs.lemmas.Refused.{delays_are}
 use Rattle.fv_propagate.specs.inner.Progress.{Progress, puts, unstarted, started, signal_hooks, IsThere}
-use Rattle.fv_propagate.specs.headline.Propagated.{Propagates, HasControl, NamesOf, NamesWithin}
-use Rattle.fv_propagate.specs.Propagated.{DelaysStayWithin, DelaysAreAmong, AreShort}
+use Rattle.fv_propagate.specs.headline.Propagated.{AreTaken, Propagates, HasControl, NamesOf, NamesWithin}
+use Rattle.fv_propagate.specs.Propagated.{DelaysAreAmong}
 use Rattle.fv_propagate.proofs.Alongside.{walk_back, walked_along, related_places}
 use Rattle.fv_propagate.proofs.Puts.{put_there, puts_at, puts_wide, puts_groups, puts_closed, puts_delays, puts_feedbacks, puts_keep}
 use Rattle.fv_propagate.proofs.Kept.{puts_all_there}
@@ -144,12 +146,12 @@ module _ (d : Diagram) (delays : List ℕ) (wf : IsWellFormed d) (free : HasNoFr
 
   -- the longest delays are those of the list, or 1 sample long
   pub delays_among : DelaysAreAmong delays graph
-  delays_among s x back max l e =
+  delays_among s x by most h =
       let IsLimit : ℕ → Type 0 = λ n. (n ≤ 1) ⊎ Contains delays n in
       let none : IsLimit 0 = inl (omega arith) in
       let one : IsLimit 1 = inl (omega arith) in
       let within : All IsLimit delays = All-weaker (Contains delays) IsLimit (λ n h. inr h) delays (All-contains_itself delays) in
-      subst (IsNamed (inputs d) (HasControl d) IsLimit none one) e ((made_named IsLimit none one within).signals s (Const (pos 0)) l)
+      subst (IsNamed (inputs d) (HasControl d) IsLimit none one) h.is ((made_named IsLimit none one within).signals s (Const (pos 0)) h.within)
 
   -- ---- its values
 
@@ -229,8 +231,9 @@ module _ (d : Diagram) (delays : List ℕ) (wf : IsWellFormed d) (free : HasNoFr
   pub propagates : IsGraph graph → (spans : List Interval) → AreAccepted (delays_of d spans) delays → Propagates d spans graph
   propagates whole spans accepted X c e taken j t l k = answers whole spans accepted X c taken.small taken.controls e taken.wide j t l k
 
-  pub stays_within : IsGraph graph → (spans : List Interval) → AreAccepted (delays_of d spans) delays → DelaysStayWithin d spans graph
-  stays_within whole spans accepted X c taken s x back max l e t = (ranged whole spans accepted X c taken.small taken.controls s x back max l e).0 t
+  pub stays_within : IsGraph graph → (spans : List Interval) → AreAccepted (delays_of d spans) delays → (X : List Frame) (c : ℕ → Stream)
+      → AreTaken d spans X c → StayWithin graph X c
+  stays_within whole spans accepted X c taken s x by most t h = (ranged whole spans accepted X c taken.small taken.controls s x by most h.within h.is).0 t
 
   -- the span of a control is one
   control_is_span : (spans : List Interval) → AreSpans spans → (k : ℕ) → IsSpan (control_span spans k)
@@ -239,11 +242,11 @@ module _ (d : Diagram) (delays : List ℕ) (wf : IsWellFormed d) (free : HasNoFr
     | inr l ↦ subst IsSpan (sym (get_or_past spans k full l)) (full_of (pos 0) zero_fits).0
   ]
 
-  pub stays_short : IsGraph graph → (spans : List Interval) → AreSpans spans → AreAccepted (delays_of d spans) delays → AreShort graph
-  stays_short whole spans are accepted s x back max l e =
+  pub stays_short : IsGraph graph → (spans : List Interval) → AreSpans spans → AreAccepted (delays_of d spans) delays → AreAtMost DELAY_LIMIT graph
+  stays_short whole spans are accepted s x by most h =
       let c : ℕ → Stream = λ k t. (control_span spans k).lo in
       (ranged whole spans accepted [] c (λ i t. zero_fits)
-      (λ k t. let i = control_is_span spans are k in (i, record { above = omega (arith, ints); below = i.ordered })) s x back max l e).1
+      (λ k t. let i = control_is_span spans are k in (i, record { above = omega (arith, ints); below = i.ordered })) s x by most h.within h.is).1
 
 -- ---- the calls
 

@@ -6,6 +6,7 @@ pub use Rattle.fv_diagram.specs.Diagram as DiagramBeside
 pub use Rattle.fv_diagram.specs.Arena
 pub use Rattle.fv_interval.specs.headline.Delays
 pub use Rattle.fv_interval.specs.Delays as DelaysBeside
+pub use Rattle.fv_num.specs.headline.Frames
 pub use Rattle.fv_num.specs.headline.Interval
 pub use Rattle.fv_num.specs.Interval as IntervalBeside
 pub use Rattle.fv_num.specs.SpanLaws

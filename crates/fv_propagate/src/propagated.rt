@@ -1,6 +1,8 @@
 // The graph of a diagram.
 
 ghost use Rattle.std.specs.Prelude.{◌≡◌, ℕ, ◌<◌, List, length, IfOk};
+ghost use Rattle.fv_base.specs.declared.limits.TheConstants.{DELAY_LIMIT};
+ghost use Rattle.fv_num.specs.headline.Frames.{Frame, Stream};
 ghost use Rattle.fv_num.specs.headline.Interval.{Interval};
 ghost use Rattle.fv_num.specs.SpanLaws.{AreSpans};
 ghost use Rattle.fv_diagram.specs.headline.Diagram.{inputs, outputs};
@@ -8,9 +10,11 @@ ghost use Rattle.fv_diagram.specs.Diagram.{IsWellFormed, HasNoFreeSlot};
 ghost use Rattle.fv_diagram.specs.Arena.{count_of, tree_of};
 ghost use Rattle.fv_interval.specs.headline.Delays.{delays_of};
 ghost use Rattle.fv_interval.specs.Delays.{AreAccepted};
+ghost use Rattle.fv_signal.specs.headline.Value.{AreAtMost};
+ghost use Rattle.fv_signal.specs.Value.{StayWithin};
 ghost use Rattle.fv_share.specs.Drafts.{AreDistinct};
-ghost use Rattle.fv_propagate.specs.headline.Propagated.{Propagates, NamesWithin};
-ghost use Rattle.fv_propagate.specs.Propagated.{DelaysStayWithin, DelaysAreAmong, AreShort};
+ghost use Rattle.fv_propagate.specs.headline.Propagated.{AreTaken, Propagates, NamesWithin};
+ghost use Rattle.fv_propagate.specs.Propagated.{DelaysAreAmong};
 
 use crate::progress::Progress;
 use fv_diagram::{DiagramId, Diagrams, walk};
@@ -33,9 +37,9 @@ pub fn propagate(
         → Propagates (tree_of diagrams.now root) spans g) }
     // No delay goes back further than its greatest number.
     ensures delays { IfOk result (λ g. (spans : List Interval) → AreAccepted (delays_of (tree_of diagrams.now root) spans) delays.now
-        → DelaysStayWithin (tree_of diagrams.now root) spans g) }
+        → (X : List Frame) (c : ℕ → Stream) → AreTaken (tree_of diagrams.now root) spans X c → StayWithin g X c) }
     ensures short { IfOk result (λ g. (spans : List Interval) → AreSpans spans → AreAccepted (delays_of (tree_of diagrams.now root) spans) delays.now
-        → AreShort g) }
+        → AreAtMost DELAY_LIMIT g) }
     // The greatest number of each delay is 1 at most, or one of those that the spans gave.
     ensures longest { IfOk result (DelaysAreAmong delays.now) }
     // Equal nodes share a number.

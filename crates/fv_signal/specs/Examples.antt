@@ -5,7 +5,7 @@ use Rattle.fv_num.specs.declared.op.Op.TheVariants.{Add, Sub, Rem}
 use Rattle.fv_num.specs.headline.Frames.{Frame}
 use Rattle.fv_signal.specs.declared.signal.Signal.TheVariants.{Input, Const, Control, Point, Delay, Back, Member, Read, Write}
 use Rattle.fv_signal.specs.declared.rate.Rate.TheVariants as rate
-use Rattle.fv_signal.specs.headline.Value.{Graph, value}
+use Rattle.fv_signal.specs.headline.Value.{Graph, back_by, value}
 use Rattle.fv_signal.specs.headline.Rates.{rates}
 
 -- the running sum of the input: + ~ _
@@ -37,6 +37,10 @@ differences = (refl, refl, refl)
 
 rates_of_each : rates difference.signals ≡ rate.Sample ∷ rate.Constant ∷ rate.Sample ∷ rate.Sample ∷ rate.Control ∷ rate.Constant ∷ rate.Control ∷ []
 rates_of_each = refl
+
+-- a delay that says 3, 9 or -3, where it goes back 5 at most
+goes_back : (back_by 5 (pos 3) ≡ 3) × (back_by 5 (pos 9) ≡ 5) × (back_by 5 (negsuc 2) ≡ 0)
+goes_back = (refl, refl, refl)
 
 -- a written table of two sevens on (0,1,0), (1,5,0), (0,9,1): the write and the read of one time are one step
 abbrev cells : Graph

@@ -1,16 +1,26 @@
 -- What calls say beside `headline/Value`: the values of a graph of signals (this project's profile).
-use Rattle.std.specs.Prelude.{◌≡◌, ℕ, ◌<◌, List, ◌++◌, length, take, All, slice_index_or, Bool, true}
+use Rattle.std.specs.Prelude.{◌≡◌, ℕ, ◌<◌, List, ◌++◌, length, take, All, ℤ, pos, slice_index_or, Bool, true}
+use Rattle.std.specs.Int.{int_max, int_min}
 use Rattle.fv_num.specs.headline.Words.{inputs_of}
 use Rattle.fv_num.specs.headline.Frames.{Frame, Stream, column}
+use Rattle.fv_num.specs.headline.Interval.{IsWithin}
 use Rattle.fv_signal.specs.declared.signal.Signal.{Signal}
 use Rattle.fv_signal.specs.declared.signal.Signal.TheVariants.{Input, Const, Control, Point, Delay, Back, Member, Read, Write}
-use Rattle.fv_signal.specs.headline.Value.{Graph, members, definition, table_of, signal_at, value, IsOrdered, IsClosed}
+use Rattle.fv_signal.specs.headline.Value.{Graph, members, definition, table_of, back_by, signal_at, value, StandsAt, IsOrdered, IsClosed}
 
 -- the value of each signal is what its node gives
 abbrev pub ValuesAreGiven : Graph → Type 0
 ValuesAreGiven g =
     IsOrdered g → (X : List Frame) (c : ℕ → Stream) (s : ℕ) (d : Signal) (t : ℕ) → s < length g.signals →
     value g s X c t ≡ signal_at g X c (λ r. value g r X c) (slice_index_or g.signals s d) t
+
+-- how far back a number says is the number, or the end of 0 .. greatest beyond which it lies
+abbrev pub DelaysAreClamped : Type 0
+DelaysAreClamped = (greatest : ℕ) (d : ℤ) → pos (back_by greatest d) ≡ int_max (pos 0) (int_min d (pos greatest))
+
+-- each delay goes back from 0 to its greatest number on these frames and controls
+abbrev pub StayWithin : Graph → List Frame → (ℕ → Stream) → Type 0
+StayWithin g X c = (s x by most t : ℕ) → StandsAt g s (Delay x by most) → IsWithin (record { lo = pos 0; hi = pos most }) (value g by X c t)
 
 -- streams that the nodes give at each time
 abbrev pub Solves : Graph → (X : List Frame) → (c : ℕ → Stream) → (v : ℕ → Stream) → Type 0

@@ -1,12 +1,17 @@
 // The laws of a graph's values and rates.
 
 ghost use Rattle.fv_signal.specs.headline.Value.{Graph};
-ghost use Rattle.fv_signal.specs.Value.{ValuesAreGiven, SolutionsAreValues, SolutionsAreValuesOn, ValuesLookBack, GrowthKeepsValues};
+ghost use Rattle.fv_signal.specs.Value.{ValuesAreGiven, DelaysAreClamped, SolutionsAreValues, SolutionsAreValuesOn, ValuesLookBack, GrowthKeepsValues};
 ghost use Rattle.fv_signal.specs.Rates.{ConstantsStay, ControlsDecide};
 
 /// The value of each signal is what its node gives.
 pub fn values_are_given()
     ensures { (g : Graph) → ValuesAreGiven g }
+{}
+
+/// A delay goes back as its number says, or to the end of its range beyond which that lies.
+pub fn delays_are_clamped()
+    ensures { DelaysAreClamped }
 {}
 
 /// There are no other streams that the nodes give.

@@ -9,7 +9,7 @@ mod signal;
 
 pub use graph::Graph;
 pub use laws::{
-    constants_stay, controls_decide, growth_keeps_values, solutions_are_values,
+    constants_stay, controls_decide, delays_are_clamped, growth_keeps_values, solutions_are_values,
     solutions_are_values_on, values_are_given, values_look_back,
 };
 pub use rate::Rate;

@@ -11,12 +11,12 @@ use Rattle.fv_num.specs.declared.op.Op.{Op}
 use Rattle.fv_num.specs.headline.Words.{apply_of, inputs_of}
 use Rattle.fv_signal.specs.declared.signal.Signal.{Signal}
 use Rattle.fv_signal.specs.declared.signal.Signal.TheVariants.{Input, Const, Control, Point, Delay, Back, Member, Read, Write}
-use Rattle.fv_signal.specs.headline.Value.{Graph, definition, OperandsBelow, IsOrdered, IsGraph}
+use Rattle.fv_signal.specs.headline.Value.{Graph, definition, OperandsBelow, IsOrdered, IsGraph, back_by}
 use Rattle.fv_share.specs.Drafts.{Draft, put}
 use Rattle.fv_share.proofs.lemmas.Puts.{put_stands}
 use Rattle.fv_simplify.specs.Choices.{choice}
 use Rattle.fv_simplify.specs.Nodes.{node, number_at, known, numbers}
-use Rattle.fv_simplify.specs.Rebuilt.{back_by, base, IsPointImage, IsDelayImage, IsImage, IsMarked}
+use Rattle.fv_simplify.specs.Rebuilt.{base, IsPointImage, IsDelayImage, IsImage, IsMarked}
 use Rattle.fv_simplify.specs.Passing.{HasWidth, so_far, is_zero, put_late, late, delayed_by, chosen, folded, image_of}
 use Rattle.fv_simplify.specs.Runs.{Pass, step, steps}
 use Rattle.fv_simplify.proofs.lemmas.Origins.{Taken, Itself, Over, base_cases}

@@ -11,12 +11,12 @@ use Rattle.fv_num.specs.declared.op.Op.{Op}
 use Rattle.fv_num.specs.headline.Words.{apply_of, inputs_of}
 use Rattle.fv_signal.specs.declared.signal.Signal.{Signal}
 use Rattle.fv_signal.specs.declared.signal.Signal.TheVariants.{Input, Const, Control, Point, Delay, Back, Member, Read, Write}
-use Rattle.fv_signal.specs.headline.Value.{Graph, definition, OperandsBelow, IsOrdered}
+use Rattle.fv_signal.specs.headline.Value.{Graph, definition, OperandsBelow, IsOrdered, back_by}
 use Rattle.fv_share.specs.Drafts.{Draft, put}
 use Rattle.fv_share.proofs.lemmas.Puts.{put_stands}
 use Rattle.fv_simplify.specs.Choices.{choice}
 use Rattle.fv_simplify.specs.Nodes.{node, number, number_at, known, before, numbers}
-use Rattle.fv_simplify.specs.Rebuilt.{back_by, taken, base_of, base, IsPointImage, AsNumber, AsOperand, AsItself, IsDelayImage, AtOnce, LateNothing}
+use Rattle.fv_simplify.specs.Rebuilt.{taken, base_of, base, IsPointImage, AsNumber, AsOperand, AsItself, IsDelayImage, AtOnce, LateNothing}
 use Rattle.fv_simplify.specs.Rebuilt.{Late, Nothing, Varying, IsImage}
 use Rattle.fv_simplify.specs.Passing.{HasWidth, so_far, is_zero, put_late, late, delayed_by, chosen, folded, image_of}
 use Rattle.fv_simplify.proofs.lemmas.Origins.{number_node, Taken, Itself, Over, base_cases}

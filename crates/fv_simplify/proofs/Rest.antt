@@ -8,13 +8,13 @@ use Rattle.fv_num.specs.declared.op.Op.{Op}
 use Rattle.fv_num.specs.headline.Words.{apply_of, inputs_of}
 use Rattle.fv_signal.specs.declared.signal.Signal.{Signal}
 use Rattle.fv_signal.specs.declared.signal.Signal.TheVariants.{Input, Const, Control, Point, Delay, Back, Member, Read, Write}
-use Rattle.fv_signal.specs.headline.Value.{Graph}
+use Rattle.fv_signal.specs.headline.Value.{Graph, back_by}
 use Rattle.fv_share.specs.Drafts.{Draft, IsDraft, IsPending, BacksWithin, put, with_groups, with_tables}
 use Rattle.fv_share.proofs.lemmas.Puts.{backs_stay_within}
 use Rattle.fv_share.proofs.lemmas.Groups.{groups_stay}
 use Rattle.fv_simplify.specs.Choices.{choice}
 use Rattle.fv_simplify.specs.Nodes.{number_at, known, numbers}
-use Rattle.fv_simplify.specs.Rebuilt.{back_by, base, IsMarked}
+use Rattle.fv_simplify.specs.Rebuilt.{base, IsMarked}
 use Rattle.fv_simplify.specs.Passing.{so_far, is_zero, put_late, late, delayed_by, chosen, folded, image_of}
 use Rattle.fv_simplify.specs.Runs.{Pass, step, steps, nothing, begun}
 use Rattle.fv_simplify.proofs.Along.{Steps, stepped}

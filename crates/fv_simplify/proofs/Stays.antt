@@ -5,10 +5,11 @@ use Rattle.std.proofs.lemmas.Int.{ints, clamps}
 use Rattle.fv_num.specs.headline.Frames.{Frame, Stream}
 use Rattle.fv_num.specs.headline.Interval.{IsWithin}
 use Rattle.fv_signal.specs.declared.signal.Signal.TheVariants.{Input, Const, Control, Delay}
-use Rattle.fv_signal.specs.headline.Value.{Graph, value, OperandsBelow, IsGraph}
+use Rattle.fv_signal.specs.headline.Value.{Graph, value, OperandsBelow, IsGraph, back_by}
 use Rattle.fv_simplify.specs.Nodes.{node, StandsAt, number, number_at}
-use Rattle.fv_simplify.specs.Reducible.{AreSmall, StayWithin}
-use Rattle.fv_simplify.specs.Rebuilt.{back_by, base, IsRebuilt}
+use Rattle.fv_signal.specs.Value.{StayWithin}
+use Rattle.fv_simplify.specs.Reducible.{AreSmall}
+use Rattle.fv_simplify.specs.Rebuilt.{base, IsRebuilt}
 use Rattle.fv_simplify.proofs.lemmas.Origins.{Origin, OfNumber, OfInput, OfControl, OfBack, OfRead, OfWrite}
 use Rattle.fv_simplify.proofs.lemmas.Origins.{OfPoint, OfLate, OfVarying, origin, tight, delay_on}
 use Rattle.fv_simplify.proofs.Values.{same, number_is}

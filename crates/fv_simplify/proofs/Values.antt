@@ -12,22 +12,17 @@ use Rattle.fv_num.specs.headline.Frames.{Frame, Stream, back, carried, delayed}
 use Rattle.fv_signal.specs.declared.signal.Signal.{Signal}
 use Rattle.fv_signal.specs.declared.signal.Signal.TheVariants.{Input, Const, Control, Point, Delay, Back, Member, Read, Write}
 use Rattle.fv_num.specs.headline.Tables.{read_at, written_at}
-use Rattle.fv_signal.specs.headline.Value.{Graph, clamped, signal_at, value, OperandsBelow, HasNumber, IsGraph}
+use Rattle.fv_signal.specs.headline.Value.{Graph, signal_at, value, OperandsBelow, HasNumber, IsGraph, back_by}
 use Rattle.fv_signal.proofs.lemmas.Values.{back_same, values_are_given}
 use Rattle.fv_simplify.specs.Choices.{Agrees}
 use Rattle.fv_simplify.specs.Nodes.{node, number_at, known, before, numbers}
 use Rattle.fv_simplify.specs.Reducible.{AreSmall}
-use Rattle.fv_simplify.specs.Rebuilt.{back_by, base, AsNumber, AsOperand, AsItself, IsDelayImage, AtOnce, LateNothing, Late, Nothing, Varying, IsImage}
+use Rattle.fv_simplify.specs.Rebuilt.{base, AsNumber, AsOperand, AsItself, IsDelayImage, AtOnce, LateNothing, Late, Nothing, Varying, IsImage}
 use Rattle.fv_simplify.specs.Rebuilt.{IsRebuilt}
 use Rattle.fv_simplify.proofs.lemmas.Choices.{choice_is, choice_within}
 use Rattle.fv_signal.proofs.lemmas.Solutions.{agree}
 use Rattle.fv_signal.proofs.lemmas.Fits.{values_fit}
 use Rattle.fv_simplify.proofs.lemmas.Origins.{number_node, arg_on, delay_on, tight, Taken, Itself, Over, base_cases}
-
--- how far a delay goes back is a natural number
-pub clamped_is : (most : ℕ) (c : ℤ) → clamped most c ≡ pos (back_by most c)
-clamped_is most (pos n) = grind (arith, ints, clamps)
-clamped_is most (negsuc n) = grind (arith, ints, clamps)
 
 -- to go back no sample, and to go back twice
 back_none : (x : Stream) (t : ℕ) → back x t (pos 0) ≡ x t
@@ -103,8 +98,8 @@ module _ (g f : Graph) (p : ℕ → ℕ) (room : ℕ → Option ℕ) (P : ℕ �
   fit_all (w ∷ ws) t a (suc j) = fit_all ws t (All-tail (λ a. a < length f.signals) w ws a) j
 
   -- what is taken of a signal
-  clamped_self : (m : ℕ) → clamped m (pos m) ≡ pos m
-  clamped_self m = grind (arith, ints, clamps)
+  back_self : (m : ℕ) → back_by m (pos m) ≡ m
+  back_self m = omega arith
 
   based : (x t : ℕ) (r : Option ℕ) → x < length f.signals → Taken f r x → ((base f r x).0 < length f.signals)
       × (val x t ≡ back (val (base f r x).0) t (pos (base f r x).1))
@@ -114,8 +109,8 @@ module _ (g f : Graph) (p : ℕ → ℕ) (room : ℕ → Option ℕ) (P : ℕ �
       let exact = ((tight g f p room P whole h x s by m l e).1 z k).0 in
       subst (λ b. (b.0 < length f.signals) × (val x t ≡ back (val b.0) t (pos b.1))) (sym i) (
         omega (arith, below.0),
-        at_node x t (Delay s by m) l e ∙ ap (λ d. back (val s) t (clamped m d)) (number_is by t z (omega (arith, below.1)) k ∙ exact)
-            ∙ ap (back (val s) t) (clamped_self m),
+        at_node x t (Delay s by m) l e ∙ ap (λ d. back (val s) t (pos (back_by m d))) (number_is by t z (omega (arith, below.1)) k ∙ exact)
+            ∙ ap (λ n. back (val s) t (pos n)) (back_self m),
       )
 
   map_twice : (args : List ℕ) (t : ℕ) → carried (λ r. value f r X c) (map p args) t ≡ carried (λ s t. value f (p s) X c t) args t
@@ -139,13 +134,13 @@ module _ (g f : Graph) (p : ℕ → ℕ) (room : ℕ → Option ℕ) (P : ℕ �
 
   -- a delay by a number
   by_number : (s x d most t : ℕ) (z : ℤ) → s < length g.signals → P s → node g s ≡ Delay x d most → number_at f (p d) ≡ Some z
-      → back (v x) t (clamped most (v d t)) ≡ back (v x) t (pos (back_by most z))
+      → back (v x) t (pos (back_by most (v d t))) ≡ back (v x) t (pos (back_by most z))
   by_number s x d most t z l o e q =
       let on = delay_on g f p room P whole h s x d most l o e in
-      ap (λ k. back (v x) t (clamped most k)) (number_is (p d) t z (h.there d (omega (arith, on.0.1)) on.1.1) q) ∙ ap (back (v x) t) (clamped_is most z)
+      ap (λ k. back (v x) t (pos (back_by most k))) (number_is (p d) t z (h.there d (omega (arith, on.0.1)) on.1.1) q)
 
   delays : (s x d most : ℕ) → s < length g.signals → P s → node g s ≡ Delay x d most → IsDelayImage f (room x) (p x) (p d) most (p s) → (t : ℕ)
-      → v s t ≡ back (v x) t (clamped most (v d t))
+      → v s t ≡ back (v x) t (pos (back_by most (v d t)))
   delays s x d most l o e (AtOnce z q k i) t =
       ap (λ r. val r t) i ∙ sym (back_none (v x) t) ∙ ap (λ n. back (v x) t (pos n)) (sym k) ∙ sym (by_number s x d most t z l o e q)
   delays s x d most l o e (LateNothing z q k w i) t =
@@ -165,7 +160,8 @@ module _ (g f : Graph) (p : ℕ → ℕ) (room : ℕ → Option ℕ) (P : ℕ �
       let image = h.there s l o in
       let below = subst (OperandsBelow f (p s)) i (h.graph.ordered (p s) (Const (pos 0)) image) in
       at_node (p s) t (Delay b.0 k n) image i
-      ∙ ap (λ j. back (val b.0) t (clamped n j)) (at_node k t (Const (pos n)) (omega (arith, image, below.1)) u) ∙ ap (back (val b.0) t) (clamped_self n)
+      ∙ ap (λ j. back (val b.0) t (pos (back_by n j))) (at_node k t (Const (pos n)) (omega (arith, image, below.1)) u)
+      ∙ ap (λ m. back (val b.0) t (pos m)) (back_self n)
       ∙ sym (back_twice (val b.0) t b.1 (back_by most z))
       ∙ sym (back_same (v x) (λ j. back (val b.0) j (pos b.1)) t (pos (back_by most z)) (λ j a. (based (p x) j (room x) there taken).1))
       ∙ sym (by_number s x d most t z l o e q)
@@ -173,7 +169,7 @@ module _ (g f : Graph) (p : ℕ → ℕ) (room : ℕ → Option ℕ) (P : ℕ �
       let on = delay_on g f p room P whole h s x d most l o e in
       let there = h.there x (omega (arith, on.0.0)) on.1.0 in
       let none : (u : ℕ) → v x u ≡ pos 0 = λ u. at_node (p x) u (Const (pos 0)) there w in
-      ap (λ r. val r t) i ∙ none t ∙ sym (back_nothing (v x) t (back_by most (v d t)) none) ∙ ap (back (v x) t) (sym (clamped_is most (v d t)))
+      ap (λ r. val r t) i ∙ none t ∙ sym (back_nothing (v x) t (back_by most (v d t)) none)
   delays s x d most l o e (Varying q w i) t = at_node (p s) t (Delay (p x) (p d) most) (h.there s l o) i
 
   gives : (s : ℕ) → s < length g.signals → P s → (n : Signal) → node g s ≡ n → IsImage g f p room n (p s) → (t : ℕ) → v s t ≡ signal_at g X c v n t

@@ -1,4 +1,3 @@
-pub mod headline
 pub mod Nodes
 pub mod Choices
 pub mod Reducible

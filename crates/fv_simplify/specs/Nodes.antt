@@ -3,7 +3,7 @@ use Rattle.std.specs.Prelude.{ℕ, zero, suc, List, [], ◌∷◌, ℤ, Option, 
 use Rattle.fv_signal.specs.declared.signal.Signal.{Signal}
 use Rattle.fv_signal.specs.declared.signal.Signal.TheVariants.{Input, Const, Control, Point, Delay, Back, Member, Read, Write}
 use Rattle.fv_signal.specs.headline.Value.{Graph}
-pub use Rattle.fv_analysis.specs.headline.Stands.{node, StandsAt}
+pub use Rattle.fv_signal.specs.headline.Value.{node, StandsAt}
 
 -- the number that a signal is at all times, where it is written there
 abbrev pub number : Signal → Option ℤ

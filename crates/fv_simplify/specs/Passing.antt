@@ -6,11 +6,11 @@ use Rattle.fv_num.specs.headline.Words.{apply_of, inputs_of}
 use Rattle.fv_base.specs.headline.Lists.{IsPrefixOf}
 use Rattle.fv_signal.specs.declared.signal.Signal.{Signal}
 use Rattle.fv_signal.specs.declared.signal.Signal.TheVariants.{Input, Const, Control, Point, Delay, Back, Member, Read, Write}
-use Rattle.fv_signal.specs.headline.Value.{Graph, definition, IsOrdered, OperandsBelow}
+use Rattle.fv_signal.specs.headline.Value.{Graph, definition, IsOrdered, OperandsBelow, back_by}
 use Rattle.fv_share.specs.Drafts.{Draft, put, graph_of}
 use Rattle.fv_simplify.specs.Choices.{choice}
 use Rattle.fv_simplify.specs.Nodes.{number_at, known, numbers}
-use Rattle.fv_simplify.specs.Rebuilt.{back_by, base, IsImage}
+use Rattle.fv_simplify.specs.Rebuilt.{base, IsImage}
 
 -- the draft's signals as a graph
 abbrev pub so_far : Draft → Graph

@@ -1,21 +1,16 @@
 -- What the images of a graph's signals are in another graph (this project's profile).
-use Rattle.std.specs.Prelude.{◌≡◌, ℕ, ◌+◌, ◌<◌, ◌≤◌, List, length, take, map, All, ℤ, pos, slice_index_or, nat_le, unsigned_abs, ◌≤ℤ◌, if◌then◌else◌, Option}
+use Rattle.std.specs.Prelude.{◌≡◌, ℕ, ◌+◌, ◌<◌, ◌≤◌, List, length, take, map, All, ℤ, pos, slice_index_or, nat_le, ◌≤ℤ◌, if◌then◌else◌, Option}
 use Rattle.std.specs.Prelude.{None, Some, Bool, true, false, ◌⊎◌}
 use Rattle.fv_num.specs.declared.op.Op.{Op}
 use Rattle.fv_num.specs.headline.Words.{apply_of, inputs_of}
 use Rattle.fv_signal.specs.declared.signal.Signal.{Signal}
 use Rattle.fv_signal.specs.declared.signal.Signal.TheVariants.{Input, Const, Control, Point, Delay, Back, Member, Read, Write}
-use Rattle.fv_signal.specs.headline.Value.{Graph, definition, clamped, value, IsGraph}
-use Rattle.fv_signal.specs.Value.{AreClosedSet}
+use Rattle.fv_signal.specs.headline.Value.{Graph, definition, back_by, value, AreAtMost, IsGraph}
+use Rattle.fv_signal.specs.Value.{AreClosedSet, StayWithin}
 use Rattle.fv_num.specs.headline.Frames.{Frame, Stream}
 use Rattle.fv_simplify.specs.Choices.{choice}
 use Rattle.fv_simplify.specs.Nodes.{node, StandsAt, number_at, known, numbers}
-use Rattle.fv_simplify.specs.headline.Reducible.{limit, AreShort}
-use Rattle.fv_simplify.specs.Reducible.{AreSmall, StayWithin, reach, IsDelayedBy, IsTakenOver, IsReducible}
-
--- how many samples a delay by the number c goes back, from 0 to the most
-abbrev pub back_by : ℕ → ℤ → ℕ
-back_by most c = unsigned_abs (clamped most c)
+use Rattle.fv_simplify.specs.Reducible.{limit, AreSmall, reach, IsDelayedBy, IsTakenOver, IsReducible}
 
 -- x, a delay of s by m samples, as a base for delays of it: s and m where m is a number and delays of at most `room` still fit,
 -- else x and 0
@@ -109,7 +104,7 @@ RoomIsSafe g P room = (x q s d most : ℕ) → room x ≡ Some q → StandsAt g 
 
 -- a rebuilt graph reads no further back
 pub record ReadsNoFurther (g f : Graph) : Type 0 where
-  pub short : AreShort g → AreShort f
+  pub short : AreAtMost limit g → AreAtMost limit f
   pub reach : reach f ≤ reach g
 
 abbrev pub RebuiltReadsNoFurther : Graph → Graph → Type 0

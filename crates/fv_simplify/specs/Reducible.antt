@@ -1,19 +1,23 @@
--- What calls say beside `headline/Reducible`: signals that can be made simpler, and what a simpler graph keeps (this project's profile).
+-- Signals that can be made simpler, and what a simpler graph keeps (this project's profile).
 use Rattle.std.specs.Prelude.{◌≡◌, ℕ, ◌<◌, ◌≤◌, List, [], ◌∷◌, length, take, max, ℤ, pos, ◌+ℤ◌, ◌≤ℤ◌, slice_index_or, nat_eq, if◌then◌else◌, Some, true}
 use Rattle.std.specs.Prelude.{FitsSigned}
 use Rattle.std.specs.List.{sum}
 use Rattle.std.specs.Int.{w32}
+use Rattle.fv_base.specs.declared.limits.TheConstants.{DELAY_BUDGET}
 use Rattle.fv_num.specs.declared.op.Op.{Op}
 use Rattle.fv_num.specs.declared.op.Op.TheVariants.{Select2, Select3}
 use Rattle.fv_num.specs.headline.Words.{inputs_of}
 use Rattle.fv_num.specs.headline.Frames.{Frame, Stream, column, table}
-use Rattle.fv_num.specs.headline.Interval.{IsWithin}
 use Rattle.fv_signal.specs.declared.signal.Signal.{Signal}
 use Rattle.fv_signal.specs.declared.signal.Signal.TheVariants.{Input, Const, Control, Point, Delay, Back, Member, Read, Write}
-use Rattle.fv_signal.specs.headline.Value.{Graph, value}
+use Rattle.fv_signal.specs.headline.Value.{Graph, value, AreAtMost}
+use Rattle.fv_signal.specs.Value.{StayWithin}
 use Rattle.fv_simplify.specs.Choices.{is_neutral, is_absorbing}
 use Rattle.fv_simplify.specs.Nodes.{node, StandsAt, known, numbers}
-use Rattle.fv_simplify.specs.headline.Reducible.{limit, AreShort}
+
+-- a delay goes back so many samples at most
+abbrev pub limit : ℕ
+limit = DELAY_BUDGET
 
 -- an operation that chooses by its first operand
 abbrev pub IsSelector : Op → Type 0
@@ -84,10 +88,6 @@ pub record AreSmall (X : List Frame) (c : ℕ → Stream) : Type 0 where
   pub frames : (i t : ℕ) → FitsSigned w32 (column X i t)
   pub controls : (k t : ℕ) → FitsSigned w32 (c k t)
 
--- each delay goes back from 0 to its greatest number on these frames and controls
-abbrev pub StayWithin : Graph → List Frame → (ℕ → Stream) → Type 0
-StayWithin g X c = (s x by most t : ℕ) → StandsAt g s (Delay x by most) → IsWithin (record { lo = pos 0; hi = pos most }) (value g by X c t)
-
 -- What h keeps of g, and that it can not be made simpler.
 pub record IsSimpler (g h : Graph) : Type 0 where
   pub width : length h.outputs ≡ length g.outputs
@@ -96,7 +96,7 @@ pub record IsSimpler (g h : Graph) : Type 0 where
   pub done : (s : ℕ) → IsReducible h s → ⊥
   pub reach : reach h ≤ reach g
   pub within : (X : List Frame) (c : ℕ → Stream) → AreSmall X c → StayWithin g X c → StayWithin h X c
-  pub short : AreShort g → AreShort h
+  pub short : AreAtMost limit g → AreAtMost limit h
   pub inputs : (s k : ℕ) → StandsAt h s (Input k) → (r : ℕ) × StandsAt g r (Input k)
   pub controls : (s k : ℕ) → StandsAt h s (Control k) → (r : ℕ) × StandsAt g r (Control k)
   pub tables : h.tables ≡ g.tables

@@ -1,10 +1,10 @@
 // The images of signals.
 
 ghost use Rattle.std.specs.Prelude.{◌≡◌, ℕ, ◌+◌, ◌<◌, length, map, All, IfOk, slice_index_or};
-ghost use Rattle.fv_signal.specs.headline.Value.{definition};
+ghost use Rattle.fv_signal.specs.headline.Value.{definition, AreAtMost};
 ghost use Rattle.fv_share.specs.Drafts.{IsPending};
 ghost use Rattle.fv_simplify.specs.Nodes.{node};
-ghost use Rattle.fv_simplify.specs.headline.Reducible.{AreShort, limit};
+ghost use Rattle.fv_simplify.specs.Reducible.{limit};
 ghost use Rattle.fv_simplify.specs.Passing.{room_in, operation as operation_of, image_of};
 
 use crate::late::{delayed, put_number, put_signal};
@@ -22,7 +22,7 @@ pub(crate) fn image(
     rooms: &[Option<u32>],
 ) -> Result<SignalId, AllocError>
     requires more { length images.now < length graph.now.signals }
-    requires short { AreShort graph.now }
+    requires short { AreAtMost limit graph.now }
     requires there { All (λ a. a < length builder.old.signals) images.now }
     requires open { (g : ℕ) → g < length graph.now.groups → IsPending builder.old g }
     requires tables { builder.old.tables ≡ graph.now.tables }

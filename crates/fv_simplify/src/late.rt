@@ -4,8 +4,9 @@ ghost use Rattle.std.specs.Prelude.{◌≡◌, ◌<◌, ◌≤◌, ◌^◌, leng
 ghost use Rattle.fv_share.specs.Drafts.{CanPut, put as put_of};
 ghost use Rattle.fv_signal.specs.declared.signal.Signal.TheVariants.{Const as const_node, Delay as delay_node};
 ghost use Rattle.fv_simplify.specs.Nodes.{number_at};
-ghost use Rattle.fv_simplify.specs.headline.Reducible.{limit};
-ghost use Rattle.fv_simplify.specs.Rebuilt.{back_by as back_by_of, taken as taken_of, base as base_of};
+ghost use Rattle.fv_simplify.specs.Reducible.{limit};
+ghost use Rattle.fv_signal.specs.headline.Value.{back_by as back_by_of};
+ghost use Rattle.fv_simplify.specs.Rebuilt.{taken as taken_of, base as base_of};
 ghost use Rattle.fv_simplify.specs.Passing.{so_far, is_zero as is_zero_of, put_late, late as late_of, by_number as by_number_of, delayed as delayed_of};
 
 use fv_base::limits::DELAY_BUDGET;

@@ -1,10 +1,10 @@
 // A pass over a graph.
 
 ghost use Rattle.std.specs.Prelude.{◌≡◌, ℕ, ◌+◌, ◌<◌, [], ◌∷◌, ◌++◌, length, take, map, All, IfOk, OnOk, slice_index_or, List, Bool, false};
-ghost use Rattle.fv_signal.specs.headline.Value.{members, IsGraph};
+ghost use Rattle.fv_signal.specs.headline.Value.{members, IsGraph, AreAtMost};
 ghost use Rattle.fv_share.specs.Drafts.{AreClosed, AreDistinct, IsPending, graph_of, lists_in};
 ghost use Rattle.fv_simplify.specs.Nodes.{node};
-ghost use Rattle.fv_simplify.specs.headline.Reducible.{AreShort};
+ghost use Rattle.fv_simplify.specs.Reducible.{limit};
 ghost use Rattle.fv_simplify.specs.Rebuilt.{IsMarked, IsRebuilt};
 ghost use Rattle.fv_simplify.specs.Passing.{room_in};
 ghost use Rattle.fv_simplify.specs.Runs.{step, begun as begun_of, passed as passed_of, definitions as definitions_of, AreGood};
@@ -24,7 +24,7 @@ pub(crate) fn rebuild(
     widths: &[u64],
     rooms: &[Option<u32>],
 ) -> Result<Graph, AllocError>
-    requires short { AreShort graph.now }
+    requires short { AreAtMost limit graph.now }
     requires marks { length marks.now ≡ length graph.now.signals }
     requires widths { length widths.now ≡ length graph.now.groups }
     requires good { AreGood graph.now marks.now widths.now }
@@ -66,7 +66,7 @@ fn fill(
     rooms: &[Option<u32>],
 ) -> Result<Vec<SignalId>, AllocError>
     requires begun { builder.old ≡ (begun_of graph.now).draft }
-    requires short { AreShort graph.now }
+    requires short { AreAtMost limit graph.now }
     requires marks { length marks.now ≡ length graph.now.signals }
     requires widths { length widths.now ≡ length graph.now.groups }
     requires good { AreGood graph.now marks.now widths.now }
@@ -91,7 +91,7 @@ fn passed(
     rooms: &[Option<u32>],
 ) -> Result<Vec<SignalId>, AllocError>
     requires begun { builder.old ≡ (begun_of graph.now).draft }
-    requires short { AreShort graph.now }
+    requires short { AreAtMost limit graph.now }
     requires marks { length marks.now ≡ length graph.now.signals }
     ensures images { IfOk result (λ v. passed_of graph.now marks.now (room_in rooms.now) ≡ record { draft = builder.new; images = v.items }) }
     ensures there { IfOk result (λ v. All (λ a. a < length builder.new.signals) v.items) }
@@ -113,7 +113,7 @@ fn next(
     rooms: &[Option<u32>],
 ) -> Result<SignalId, AllocError>
     requires more { length images.now < length graph.now.signals }
-    requires short { AreShort graph.now }
+    requires short { AreAtMost limit graph.now }
     requires some { 0 < length builder.old.signals }
     requires there { All (λ a. a < length builder.old.signals) images.now }
     requires open { (g : ℕ) → g < length graph.now.groups → IsPending builder.old g }

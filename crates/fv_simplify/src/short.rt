@@ -2,14 +2,15 @@
 
 ghost use Rattle.std.specs.Prelude.{◌≡◌, ◌↔◌, ◌<◌, ◌≤◌, ℕ, false, IsTrue};
 ghost use Rattle.fv_signal.specs.declared.signal.Signal.TheVariants.{Delay as delay_node};
-ghost use Rattle.fv_simplify.specs.headline.Reducible.{AreShort, limit};
+ghost use Rattle.fv_signal.specs.headline.Value.{AreAtMost};
+ghost use Rattle.fv_simplify.specs.Reducible.{limit};
 
 use fv_base::limits::DELAY_BUDGET;
 use fv_signal::{Graph, Signal, SignalId};
 
 /// Whether no greatest number of a delay is over the limit.
 pub fn are_short(graph: &Graph) -> bool
-    ensures { IsTrue result ↔ AreShort graph.now }
+    ensures { IsTrue result ↔ AreAtMost limit graph.now }
 {
     for place in 0..graph.len() {
         if is_longer(graph.signal(SignalId::new(place))) {

@@ -3,8 +3,9 @@
 ghost use Rattle.std.specs.Prelude.{List, ℕ, IfOk};
 ghost use Rattle.fv_num.specs.headline.Frames.{Frame, Stream};
 ghost use Rattle.fv_share.specs.Drafts.{AreDistinct};
-ghost use Rattle.fv_simplify.specs.headline.Reducible.{AreShort};
-ghost use Rattle.fv_simplify.specs.Reducible.{StayWithin, IsSimpler};
+ghost use Rattle.fv_signal.specs.headline.Value.{AreAtMost};
+ghost use Rattle.fv_signal.specs.Value.{StayWithin};
+ghost use Rattle.fv_simplify.specs.Reducible.{IsSimpler, limit};
 ghost use Rattle.fv_simplify.specs.Kept.{KeepsAll};
 ghost use Rattle.fv_simplify.specs.Simplified.{AreSmallIn};
 ghost use Rattle.fv_simplify.specs.inner.Once.{Folds, Joins};
@@ -21,7 +22,7 @@ use std::alloc::{AllocError, Global};
 /// A graph with as many outputs and their values at every sample, in which nothing is reducible: what numbers decide is folded,
 /// and delays of delays are joined where no signal is read further back. `controls` has the span of each control.
 pub fn simplify(alloc: Global, graph: &Graph, controls: &[Span]) -> Result<Graph, AllocError>
-    requires short { AreShort graph.now }
+    requires short { AreAtMost limit graph.now }
     ensures simpler { IfOk result (IsSimpler graph.now) }
     // Where the controls are in their spans, and no delay went further than its greatest number, none does.
     ensures within { IfOk result (λ h. (X : List Frame) (c : ℕ → Stream) → AreSmallIn controls.now X c → StayWithin graph.now X c → StayWithin h X c) }
@@ -36,9 +37,9 @@ pub fn simplify(alloc: Global, graph: &Graph, controls: &[Span]) -> Result<Graph
 
 // The graph in which what numbers decide is folded.
 fn folded(alloc: Global, graph: &Graph) -> Result<Graph, AllocError>
-    requires { AreShort graph.now }
+    requires { AreAtMost limit graph.now }
     ensures folds { IfOk result (Folds graph.now) }
-    ensures short { IfOk result AreShort }
+    ensures short { IfOk result (AreAtMost limit) }
 {
     let marks = marks(alloc, graph)?;
     let widths = widths(alloc, graph, &marks)?;
@@ -47,16 +48,16 @@ fn folded(alloc: Global, graph: &Graph) -> Result<Graph, AllocError>
 
 // The graph in which equal signals are read as one.
 fn one_of_each(alloc: Global, graph: &Graph) -> Result<Graph, AllocError>
-    requires { AreShort graph.now }
+    requires { AreAtMost limit graph.now }
     ensures keeps { IfOk result (KeepsAll graph.now) }
-    ensures short { IfOk result AreShort }
+    ensures short { IfOk result (AreAtMost limit) }
 {
     fold(alloc, graph)
 }
 
 // The graph in which, moreover, delays are joined.
 fn joined(alloc: Global, graph: &Graph) -> Result<Graph, AllocError>
-    requires { AreShort graph.now }
+    requires { AreAtMost limit graph.now }
     ensures joins { IfOk result (Joins graph.now) }
     ensures shared { IfOk result (λ h. AreDistinct h.signals) }
 {

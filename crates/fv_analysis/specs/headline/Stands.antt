@@ -1,18 +1,10 @@
 -- What a signal reads, where a member stands for its definition (this project's profile).
-use Rattle.std.specs.Prelude.{◌≡◌, ℕ, ◌<◌, List, [], length, slice_index_or, pos}
+use Rattle.std.specs.Prelude.{ℕ, List, [], length, slice_index_or}
 use Rattle.fv_signal.specs.declared.signal.Signal.{Signal}
 use Rattle.fv_signal.specs.declared.signal.Signal.TheVariants.{Input, Const, Control, Point, Delay, Back, Member, Read, Write}
 use Rattle.fv_signal.specs.headline.Grown.{grown}
 use Rattle.fv_signal.specs.headline.Value.{Graph, definition}
-
--- the signal with number s
-abbrev pub node : Graph → ℕ → Signal
-node g s = slice_index_or g.signals s (Const (pos 0))
-
--- the signal stands at place s
-pub record StandsAt (g : Graph) (s : ℕ) (signal : Signal) : Type 0 where
-  pub within : s < length g.signals
-  pub is : node g s ≡ signal
+pub use Rattle.fv_signal.specs.headline.Value.{node, StandsAt}
 
 -- the signal at a place stands for itself, and a member for what its definition stands for
 abbrev pub stand_in : Graph → List ℕ → Signal → ℕ

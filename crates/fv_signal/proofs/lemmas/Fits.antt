@@ -13,7 +13,7 @@ use Rattle.fv_num.specs.headline.Interval.{IsWithin, IsSpan, full, point, span_a
 use Rattle.fv_num.proofs.lemmas.Closed.{holds, closed}
 use Rattle.fv_signal.specs.declared.signal.Signal.{Signal}
 use Rattle.fv_signal.specs.declared.signal.Signal.TheVariants.{Input, Const, Control, Point, Delay, Back, Member, Read, Write}
-use Rattle.fv_signal.specs.headline.Value.{Graph, definition, table_of, clamped, signal_at, value, OperandsBelow, NamesWithin, IsOrdered, IsClosed, HaveNumbers}
+use Rattle.fv_signal.specs.headline.Value.{Graph, definition, table_of, back_by, signal_at, value, OperandsBelow, NamesWithin, IsOrdered, IsClosed, HaveNumbers}
 use Rattle.fv_signal.proofs.lemmas.Values.{values_are_given}
 
 zero_fits : FitsSigned w32 (pos 0)
@@ -82,7 +82,7 @@ module _ (F : Graph) (ordered : IsOrdered F) (shut : IsClosed F) (X : List Frame
   node_fits t s (Point op args) l e o n b h =
       point_fits op (take (inputs_of op) (carried (λ r. value F r X c) args t)) (λ i. items_fit (λ r. value F r X c t) (inputs_of op) s args i o h)
   node_fits t s (Delay x d max) l e o n b h =
-      back_fits (λ u. value F x X c u) t (clamped max (value F d X c t)) (fit_upto t b x (omega (arith, o.0)) (h x o.0))
+      back_fits (λ u. value F x X c u) t (pos (back_by max (value F d X c t))) (fit_upto t b x (omega (arith, o.0)) (h x o.0))
   node_fits zero s (Back group k) l e o n b h = zero_fits
   node_fits (suc t) s (Back group k) l e o n b h = b (definition F group k) t n.2 (omega arith)
   node_fits t s (Member group k) l e o n b h = h (definition F group k) o

@@ -7,7 +7,7 @@ use Rattle.fv_num.specs.headline.Words.{apply_of, inputs_of}
 use Rattle.fv_num.specs.headline.Frames.{Frame, Stream, back, delayed}
 use Rattle.fv_signal.specs.declared.signal.Signal.{Signal}
 use Rattle.fv_signal.specs.declared.signal.Signal.TheVariants.{Input, Const, Control, Point, Delay, Back, Member, Read, Write}
-use Rattle.fv_signal.specs.headline.Value.{Graph, definition, table_of, clamped, signal_at, value, OperandsBelow, IsOrdered, NamesWithin, IsClosed}
+use Rattle.fv_signal.specs.headline.Value.{Graph, definition, table_of, back_by, signal_at, value, OperandsBelow, IsOrdered, NamesWithin, IsClosed}
 use Rattle.fv_signal.specs.Value.{Solves, SolutionsAreValues}
 use Rattle.fv_signal.specs.Value.{ReadsOnly, AreClosedSet, SolvesOn, SolutionsAreValuesOn, ValuesLookBack, GrowthKeepsValues}
 use Rattle.fv_num.specs.headline.Tables.{read_at, written_at}
@@ -44,11 +44,11 @@ module _ (g : Graph) (ordered : IsOrdered g) (closed : IsClosed g) (P : ℕ → 
   here i t (Control k) h d o m p q = refl
   here i t (Point op args) h d o m p q = ap (apply_of op) (taken_same (inputs_of op) i P (λ r. v r t) (λ r. w r t) args h o q)
   here i t (Delay x y max) h d o m p q =
-      back_same (v x) (w x) t (clamped max (v y t)) (λ u l. elim (cases_lt u t) [
+      back_same (v x) (w x) t (pos (back_by max (v y t))) (λ u l. elim (cases_lt u t) [
         | inl n ↦ p x u (omega (arith, h.0)) o.0 n
         | inr n ↦ let e : t ≡ u = omega arith in subst (λ k. v x k ≡ w x k) e (q x h.0 o.0)
       ])
-      ∙ ap (λ k. back (w x) t (clamped max k)) (q y h.1 o.1)
+      ∙ ap (λ k. back (w x) t (pos (back_by max k))) (q y h.1 o.1)
   here i t (Back group k) h d o m p q = delayed_same (v (definition g group k)) (w (definition g group k)) t (λ u l. p (definition g group k) u d.2 o l)
   here i t (Member group k) h d o m p q = q (definition g group k) h o
   here i t (Read table r) h d o m p q = ap (read_at (table_of g table)) (q r h o)

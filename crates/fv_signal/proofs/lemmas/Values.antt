@@ -3,6 +3,7 @@ use Rattle.std.proofs.Common.{◌≡◌, ℕ, zero, suc, ◌+◌, ◌-◌, ◌<�
 use Rattle.std.proofs.Common.{All, ℤ, pos, negsuc, true, false, if◌then◌else◌, nat_le}
 use Rattle.std.proofs.lemmas.List.Elements.{All-head, All-tail}
 use Rattle.std.proofs.lemmas.Bool.{cases_lt}
+use Rattle.std.proofs.lemmas.Int.{ints, clamps}
 use Rattle.fv_num.specs.headline.Words.{apply_of, inputs_of}
 use Rattle.fv_num.specs.headline.Frames.{Frame, Stream, delayed, back}
 use Rattle.fv_num.specs.inner.Valuation.{IsCausalAt, AreCausalFrom}
@@ -11,8 +12,8 @@ use Rattle.fv_num.proofs.lemmas.Tables.{last_written_same}
 use Rattle.fv_num.proofs.lemmas.Valued.{valuation_is}
 use Rattle.fv_signal.specs.declared.signal.Signal.{Signal}
 use Rattle.fv_signal.specs.declared.signal.Signal.TheVariants.{Input, Const, Control, Point, Delay, Back, Member, Read, Write}
-use Rattle.fv_signal.specs.headline.Value.{Graph, definition, table_of, clamped, signal_at, OperandsBelow}
-use Rattle.fv_signal.specs.Value.{ValuesAreGiven}
+use Rattle.fv_signal.specs.headline.Value.{Graph, definition, table_of, back_by, signal_at, OperandsBelow}
+use Rattle.fv_signal.specs.Value.{ValuesAreGiven, DelaysAreClamped}
 
 pub map_same : (i : ℕ) (f g : ℕ → ℤ) (ws : List ℕ) → All (λ w. w < i) ws → ((w : ℕ) → w < i → f w ≡ g w) → map f ws ≡ map g ws
 map_same i f g [] h e = refl
@@ -26,6 +27,11 @@ pub back_same : (x y : Stream) (t : ℕ) (d : ℤ) → ((i : ℕ) → i ≤ t �
 back_same x y t (pos d) h = elim (nat_le d t) as (λ b. (if b then x (t - d) else pos 0) ≡ (if b then y (t - d) else pos 0))
     [ true ↦ h (t - d) (omega arith) | false ↦ refl ]
 back_same x y t (negsuc d) h = refl
+
+-- how far back a number says, by the least and the greatest
+pub delays_are_clamped : DelaysAreClamped
+delays_are_clamped greatest (pos d) = grind (arith, ints, clamps)
+delays_are_clamped greatest (negsuc d) = grind (arith, ints, clamps)
 
 -- streams that are the same before a time and at it
 pub upto_now : (x y : Stream) (t : ℕ) → ((u : ℕ) → u < t → x u ≡ y u) → x t ≡ y t → (u : ℕ) → u ≤ t → x u ≡ y u
@@ -42,9 +48,9 @@ module _ (g : Graph) (X : List Frame) (c : ℕ → Stream) where
   signal_causal i (Control k) h v v' t p q = refl
   signal_causal i (Point op args) h v v' t p q = ap (λ x. apply_of op (take (inputs_of op) x)) (map_same i (λ w. v w t) (λ w. v' w t) args h q)
   signal_causal i (Delay x d max) h v v' t p q =
-      back_same (v x) (v' x) t (clamped max (v d t))
+      back_same (v x) (v' x) t (pos (back_by max (v d t)))
       (λ u l. elim (cases_lt u t) [ inl m ↦ p x u m | inr n ↦ let e : t ≡ u = omega arith in subst (λ k. v x k ≡ v' x k) e (q x h.0) ])
-      ∙ ap (λ k. back (v' x) t (clamped max k)) (q d h.1)
+      ∙ ap (λ k. back (v' x) t (pos (back_by max k))) (q d h.1)
   signal_causal i (Back group k) h v v' t p q = delayed_same (v (definition g group k)) (v' (definition g group k)) t (λ u l. p (definition g group k) u l)
   signal_causal i (Member group k) h v v' t p q = q (definition g group k) h
   signal_causal i (Read table r) h v v' t p q = ap (read_at (table_of g table)) (q r h)

@@ -1,6 +1,6 @@
 -- The values of a graph of signals (this project's profile).
-use Rattle.std.specs.Prelude.{ℕ, ◌<◌, List, [], length, take, All, ℤ, pos, slice_index_or, FitsSigned}
-use Rattle.std.specs.Int.{int_max, int_min, w32}
+use Rattle.std.specs.Prelude.{◌≡◌, ℕ, ◌<◌, ◌≤◌, List, [], length, take, All, min, ℤ, pos, negsuc, slice_index_or, FitsSigned}
+use Rattle.std.specs.Int.{w32}
 use Rattle.fv_num.specs.headline.Words.{argument, apply_of, inputs_of}
 use Rattle.fv_num.specs.headline.Frames.{Frame, Stream, column, delayed, back, carried}
 use Rattle.fv_num.specs.headline.Tables.{read_at, written_at}
@@ -27,9 +27,10 @@ definition g group i = slice_index_or (members g group) i 0
 abbrev pub table_of : Graph → (table : ℕ) → List ℤ
 table_of g table = slice_index_or g.tables table []
 
--- the number, or the end of 0 .. max beyond which it lies
-abbrev pub clamped : ℕ → ℤ → ℤ
-clamped max d = int_max (pos 0) (int_min d (pos max))
+-- how far back a number says, from 0 to the greatest
+abbrev pub back_by : (greatest : ℕ) → ℤ → ℕ
+back_by greatest (pos d) = min d greatest
+back_by greatest (negsuc d) = 0
 
 -- what a signal gives at time t on the frames X under the controls c, where signal s has the stream v s
 abbrev pub signal_at : Graph → (X : List Frame) → (c : ℕ → Stream) → Meaning Signal
@@ -37,7 +38,7 @@ signal_at g X c v (Input i) t = column X i t
 signal_at g X c v (Const n) t = n
 signal_at g X c v (Control k) t = c k t
 signal_at g X c v (Point op args) t = apply_of op (take (inputs_of op) (carried v args t))
-signal_at g X c v (Delay x d max) t = back (v x) t (clamped max (v d t))
+signal_at g X c v (Delay x d max) t = back (v x) t (pos (back_by max (v d t)))
 signal_at g X c v (Back group i) t = delayed (v (definition g group i)) t
 signal_at g X c v (Member group i) t = v (definition g group i) t
 signal_at g X c v (Read table r) t = read_at (table_of g table) (v r t)
@@ -46,6 +47,19 @@ signal_at g X c v (Write table w x r) t = written_at (table_of g table) (v w) (v
 -- the value of signal s at time t
 abbrev pub value : Graph → (s : ℕ) → (X : List Frame) → (c : ℕ → Stream) → Stream
 value g s X c t = valuation (signal_at g X c) g.signals s t
+
+-- the signal with number s
+abbrev pub node : Graph → ℕ → Signal
+node g s = slice_index_or g.signals s (Const (pos 0))
+
+-- the signal stands at place s
+pub record StandsAt (g : Graph) (s : ℕ) (signal : Signal) : Type 0 where
+  pub within : s < length g.signals
+  pub is : node g s ≡ signal
+
+-- no greatest number of a delay is over n
+abbrev pub AreAtMost : ℕ → Graph → Type 0
+AreAtMost n g = (s x by most : ℕ) → StandsAt g s (Delay x by most) → most ≤ n
 
 -- the operands of a signal, and a member's definition, are earlier than place i
 abbrev pub OperandsBelow : Graph → ℕ → Signal → Type 0

@@ -10,12 +10,11 @@ use Rattle.fv_num.specs.declared.op.Op.TheVariants.{Select2, Select3}
 use Rattle.fv_num.specs.headline.Words.{inputs_of}
 use Rattle.fv_signal.specs.declared.signal.Signal.{Signal}
 use Rattle.fv_signal.specs.declared.signal.Signal.TheVariants.{Input, Const, Control, Point, Delay, Back, Member, Read, Write}
-use Rattle.fv_signal.specs.headline.Value.{Graph, IsGraph}
+use Rattle.fv_signal.specs.headline.Value.{Graph, IsGraph, back_by}
 use Rattle.fv_simplify.specs.Choices.{left_by, or_else, selected2, selected3, choice}
 use Rattle.fv_simplify.specs.Nodes.{node, StandsAt, number, number_at, known, before, numbers}
-use Rattle.fv_simplify.specs.headline.Reducible.{limit}
-use Rattle.fv_simplify.specs.Reducible.{IsDelayedBy, IsTakenOver, IsReducible}
-use Rattle.fv_simplify.specs.Rebuilt.{back_by, taken, base_of, base, AsNumber, AsOperand, AsItself, IsDelayImage, AtOnce}
+use Rattle.fv_simplify.specs.Reducible.{IsDelayedBy, IsTakenOver, IsReducible, limit}
+use Rattle.fv_simplify.specs.Rebuilt.{taken, base_of, base, AsNumber, AsOperand, AsItself, IsDelayImage, AtOnce}
 use Rattle.fv_simplify.specs.Rebuilt.{LateNothing, Late, Nothing, Varying, IsImage, IsRebuilt, IsFolded, IsRoom}
 use Rattle.fv_simplify.proofs.lemmas.Choices.{choice_within}
 use Rattle.fv_simplify.proofs.lemmas.Origins.{number_node, Itself, Over, base_cases, Origin, OfNumber, OfInput, OfControl, OfBack}

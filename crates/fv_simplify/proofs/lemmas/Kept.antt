@@ -11,11 +11,11 @@ use Rattle.fv_num.specs.headline.Frames.{Frame, Stream}
 use Rattle.fv_num.specs.headline.Interval.{IsWithin}
 use Rattle.fv_signal.specs.declared.signal.Signal.{Signal}
 use Rattle.fv_signal.specs.declared.signal.Signal.TheVariants.{Input, Const, Control, Point, Delay, Back, Member, Read, Write}
-use Rattle.fv_signal.specs.headline.Value.{Graph, value, OperandsBelow, IsGraph}
+use Rattle.fv_signal.specs.headline.Value.{Graph, value, OperandsBelow, IsGraph, AreAtMost}
 use Rattle.fv_simplify.specs.Choices.{choice}
 use Rattle.fv_simplify.specs.Nodes.{node, StandsAt, number, number_at, known, before, numbers}
-use Rattle.fv_simplify.specs.headline.Reducible.{limit, AreShort}
-use Rattle.fv_simplify.specs.Reducible.{far, farthest, reach, StayWithin}
+use Rattle.fv_signal.specs.Value.{StayWithin}
+use Rattle.fv_simplify.specs.Reducible.{far, farthest, reach, limit}
 use Rattle.fv_simplify.specs.Rebuilt.{IsMarked, IsFolded}
 use Rattle.fv_simplify.proofs.lemmas.Origins.{number_node}
 use Rattle.fv_simplify.proofs.lemmas.Reaches.{farthest_least}
@@ -194,7 +194,7 @@ module _ (g : Graph) (p : ℕ → ℕ) (whole : IsGraph g) (fold : IsFolding g p
             λ c z. both.1 c (sym (number_same b (omega (arith, below.1, l))) ∙ ap (number_at h) r ∙ z),
           )
 
-  short : AreShort g → AreShort h
+  short : AreAtMost limit g → AreAtMost limit h
   short u s x by most a = go (at_delay s x by most a)
     where
       go : OfDelay s x by most → most ≤ limit

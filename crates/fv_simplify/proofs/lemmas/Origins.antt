@@ -10,12 +10,12 @@ use Rattle.fv_num.specs.declared.op.Op.{Op}
 use Rattle.fv_num.specs.headline.Words.{inputs_of}
 use Rattle.fv_signal.specs.declared.signal.Signal.{Signal}
 use Rattle.fv_signal.specs.declared.signal.Signal.TheVariants.{Input, Const, Control, Point, Delay, Back, Member, Read, Write}
-use Rattle.fv_signal.specs.headline.Value.{Graph, definition, OperandsBelow, IsGraph}
+use Rattle.fv_signal.specs.headline.Value.{Graph, definition, OperandsBelow, IsGraph, back_by}
 use Rattle.fv_signal.specs.Value.{ReadsOnly}
 use Rattle.fv_simplify.specs.Choices.{choice}
 use Rattle.fv_simplify.specs.Nodes.{node, StandsAt, number, number_at, known, numbers}
-use Rattle.fv_simplify.specs.headline.Reducible.{limit}
-use Rattle.fv_simplify.specs.Rebuilt.{back_by, taken, base_of, base, AsNumber, AsOperand, AsItself, AtOnce, LateNothing, Late, Nothing, Varying}
+use Rattle.fv_simplify.specs.Reducible.{limit}
+use Rattle.fv_simplify.specs.Rebuilt.{taken, base_of, base, AsNumber, AsOperand, AsItself, AtOnce, LateNothing, Late, Nothing, Varying}
 use Rattle.fv_simplify.specs.Rebuilt.{IsImage, IsRebuilt}
 use Rattle.fv_simplify.proofs.lemmas.Choices.{choice_within}
 

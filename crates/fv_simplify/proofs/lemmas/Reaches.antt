@@ -8,11 +8,10 @@ use Rattle.std.proofs.lemmas.List.{get_or-map}
 use Rattle.fv_num.specs.headline.Words.{inputs_of}
 use Rattle.fv_signal.specs.declared.signal.Signal.{Signal}
 use Rattle.fv_signal.specs.declared.signal.Signal.TheVariants.{Input, Const, Control, Point, Delay, Back, Member, Read, Write}
-use Rattle.fv_signal.specs.headline.Value.{Graph, definition, IsGraph}
+use Rattle.fv_signal.specs.headline.Value.{Graph, definition, IsGraph, back_by, AreAtMost}
 use Rattle.fv_simplify.specs.Nodes.{node, StandsAt, number, number_at, known}
-use Rattle.fv_simplify.specs.headline.Reducible.{limit, AreShort}
-use Rattle.fv_simplify.specs.Reducible.{far, farthest, reach}
-use Rattle.fv_simplify.specs.Rebuilt.{back_by, base, AsNumber, AsOperand, AsItself, AtOnce, LateNothing}
+use Rattle.fv_simplify.specs.Reducible.{far, farthest, reach, limit}
+use Rattle.fv_simplify.specs.Rebuilt.{base, AsNumber, AsOperand, AsItself, AtOnce, LateNothing}
 use Rattle.fv_simplify.specs.Rebuilt.{Late, Nothing, Varying, IsImage, IsRebuilt, RoomIsSafe}
 use Rattle.fv_simplify.proofs.lemmas.Choices.{choice_within}
 use Rattle.fv_simplify.proofs.lemmas.Origins.{Taken, Itself, Over, base_cases, Origin, OfNumber, OfInput, OfControl, OfBack}
@@ -72,7 +71,7 @@ module _ (g f : Graph) (p : ℕ → ℕ) (room : ℕ → Option ℕ) (P : ℕ �
       let image = subst (λ m. IsImage g f p room m (p d)) r.1 (h.images d there on.1.1) in
       let both : Some r.0 ≡ None = sym (ap number image) ∙ n in absurd cc
 
-  pub short_kept : AreShort g → AreShort f
+  pub short_kept : AreAtMost limit g → AreAtMost limit f
   short_kept short i x by most a = let e = a.is in go e (origin g f p room P whole h i a.within)
     where
       go : node f i ≡ Delay x by most → Origin g f p room P whole h i → most ≤ limit

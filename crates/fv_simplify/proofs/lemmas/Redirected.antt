@@ -7,7 +7,7 @@ use Rattle.fv_num.specs.headline.Frames.{Frame, Stream, back, delayed, carried}
 use Rattle.fv_num.specs.headline.Tables.{read_at}
 use Rattle.fv_signal.specs.declared.signal.Signal.{Signal}
 use Rattle.fv_signal.specs.declared.signal.Signal.TheVariants.{Input, Const, Control, Point, Delay, Back, Member, Read, Write}
-use Rattle.fv_signal.specs.headline.Value.{Graph, members, definition, table_of, clamped, signal_at, value, OperandsBelow, IsOrdered, NamesWithin}
+use Rattle.fv_signal.specs.headline.Value.{Graph, members, definition, table_of, back_by, signal_at, value, OperandsBelow, IsOrdered, NamesWithin}
 use Rattle.fv_signal.specs.headline.Value.{HasNumber, IsGraph}
 use Rattle.fv_signal.specs.Value.{Solves}
 use Rattle.fv_signal.proofs.lemmas.Values.{back_same, written_same, map_same, values_are_given}
@@ -171,8 +171,8 @@ module _ (g : Graph) (p : ℕ → ℕ) (whole : IsGraph g) (fold : IsFolding g p
         twice [] = refl
         twice (a ∷ xs) = ap (λ ys. v (p a) t ∷ ys) (twice xs)
     at_operands i (Delay x d most) t l b w =
-        back_same (v (p x)) (v x) t (clamped most (v (p d) t)) (λ u m. same x u (omega (arith, b.0, l)))
-        ∙ ap (λ k. back (v x) t (clamped most k)) (same d t (omega (arith, b.1, l)))
+        back_same (v (p x)) (v x) t (pos (back_by most (v (p d) t))) (λ u m. same x u (omega (arith, b.0, l)))
+        ∙ ap (λ k. back (v x) t (pos (back_by most k))) (same d t (omega (arith, b.1, l)))
     at_operands i (Back group k) zero l b w = refl
     at_operands i (Back group k) (suc t) l b w = same (definition g group k) t w.2
     at_operands i (Member group k) t l b w = same (definition g group k) t w.2

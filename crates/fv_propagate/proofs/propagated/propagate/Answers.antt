@@ -1,14 +1,17 @@
 use Rattle.std.proofs.Common.{◌≡◌, ℕ, List, length, sym, ap, ◌∙◌, subst}
+use Rattle.fv_base.specs.declared.limits.TheConstants.{DELAY_LIMIT}
+use Rattle.fv_num.specs.headline.Frames.{Frame, Stream}
 use Rattle.fv_num.specs.headline.Interval.{Interval}
 use Rattle.fv_num.specs.SpanLaws.{AreSpans}
-use Rattle.fv_signal.specs.headline.Value.{Graph, IsGraph}
+use Rattle.fv_signal.specs.headline.Value.{Graph, AreAtMost, IsGraph}
+use Rattle.fv_signal.specs.Value.{StayWithin}
 use Rattle.fv_share.specs.Drafts.{AreClosed, AreDistinct, graph_of}
 use Rattle.fv_diagram.specs.Arena.{tree_of}
 use Rattle.fv_interval.specs.headline.Delays.{delays_of}
 use Rattle.fv_interval.specs.Delays.{AreAccepted}
 use Rattle.fv_propagate.specs.inner.Progress.{Progress, IsThere}
-use Rattle.fv_propagate.specs.headline.Propagated.{Propagates, NamesWithin}
-use Rattle.fv_propagate.specs.Propagated.{DelaysStayWithin, DelaysAreAmong, AreShort}
+use Rattle.fv_propagate.specs.headline.Propagated.{AreTaken, Propagates, NamesWithin}
+use Rattle.fv_propagate.specs.Propagated.{DelaysAreAmong}
 use Rattle.fv_propagate.proofs.Whole.{made, graph, propagates, stays_within, stays_short, delays_among, names_within}
 use Rattle.fv_propagate.proofs.Whole.{made_wide, made_closed, made_is, inputs_there}
 use Rattle.fv_propagate.proofs.propagated.propagate.Goals as goal
@@ -68,7 +71,8 @@ returns-clause-delays c =
     let same : graph_of c.walk.new.signals.draft c.deref.result.now ≡ graph d ds r.well r.closed n =
     ap (graph_of c.walk.new.signals.draft) c.deref.ensures.value ∙ ap (λ (r : List ℕ × Progress). graph_of r.1.draft r.0) is in
     let g : c.in_ok-graph.graph ≡ graph d ds r.well r.closed n = c.in_ok-graph.ensures.graph ∙ same in
-    subst (λ (g : Graph). (spans : List Interval) → AreAccepted (delays_of d spans) ds → DelaysStayWithin d spans g) (sym g)
+    subst (λ (g : Graph). (spans : List Interval) → AreAccepted (delays_of d spans) ds → (X : List Frame) (c : ℕ → Stream)
+    → AreTaken d spans X c → StayWithin g X c) (sym g)
     (stays_within d ds r.well r.closed n (subst IsGraph same c.in_ok-graph.ensures.whole))
 
 pub returns-clause-short : goal.returns-clause-short
@@ -83,7 +87,7 @@ returns-clause-short c =
     let same : graph_of c.walk.new.signals.draft c.deref.result.now ≡ graph d ds r.well r.closed n =
     ap (graph_of c.walk.new.signals.draft) c.deref.ensures.value ∙ ap (λ (r : List ℕ × Progress). graph_of r.1.draft r.0) is in
     let g : c.in_ok-graph.graph ≡ graph d ds r.well r.closed n = c.in_ok-graph.ensures.graph ∙ same in
-    subst (λ (g : Graph). (spans : List Interval) → AreSpans spans → AreAccepted (delays_of d spans) ds → AreShort g) (sym g)
+    subst (λ (g : Graph). (spans : List Interval) → AreSpans spans → AreAccepted (delays_of d spans) ds → AreAtMost DELAY_LIMIT g) (sym g)
     (stays_short d ds r.well r.closed n (subst IsGraph same c.in_ok-graph.ensures.whole))
 
 pub returns-clause-longest : goal.returns-clause-longest

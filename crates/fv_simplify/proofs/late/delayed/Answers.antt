@@ -3,7 +3,7 @@ use Rattle.std.specs.Prelude.{IfOk, Option}
 use Rattle.std.proofs.lemmas.Int.{to_z-of_z}
 use Rattle.fv_share.specs.Drafts.{Draft}
 use Rattle.fv_simplify.specs.Nodes.{number_at}
-use Rattle.fv_simplify.specs.Rebuilt.{back_by}
+use Rattle.fv_signal.specs.headline.Value.{back_by}
 use Rattle.fv_simplify.specs.Passing.{so_far, by_number, delayed_by, delayed}
 use Rattle.fv_simplify.proofs.late.delayed.Goals as goal
 

@@ -3,7 +3,7 @@ use Rattle.std.proofs.lemmas.Bool.{cases_lt}
 use Rattle.std.proofs.lemmas.List.{get_or_read}
 use Rattle.fv_signal.specs.declared.signal.Signal.TheVariants.{Const, Delay}
 use Rattle.fv_simplify.specs.Nodes.{node}
-use Rattle.fv_simplify.specs.headline.Reducible.{limit}
+use Rattle.fv_simplify.specs.Reducible.{limit}
 use Rattle.fv_simplify.proofs.short.are_short.Goals as goal
 
 pub returns-then-is_longer : goal.returns-then-is_longer

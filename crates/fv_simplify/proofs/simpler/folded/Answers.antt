@@ -1,5 +1,6 @@
 use Rattle.std.proofs.lemmas.Result.{IfOk-weaker}
-use Rattle.fv_simplify.specs.headline.Reducible.{AreShort}
+use Rattle.fv_signal.specs.headline.Value.{AreAtMost}
+use Rattle.fv_simplify.specs.Reducible.{limit}
 use Rattle.fv_simplify.specs.Rebuilt.{IsMarked}
 use Rattle.fv_simplify.specs.Simpler.{no_room}
 use Rattle.fv_simplify.proofs.lemmas.Reaches.{short_kept}
@@ -14,5 +15,5 @@ returns-clause-folds c =
 pub returns-clause-short : goal.returns-clause-short
 returns-clause-short c =
     let g = c.args.graph.now in
-    IfOk-weaker c.rebuild.result (Folds g) AreShort
+    IfOk-weaker c.rebuild.result (Folds g) (AreAtMost limit)
     (λ h r. short_kept g h r.images no_room (IsMarked r.marks) r.graph r.rebuilt (λ x q s d most e a o. absurd cc) c.requires) (returns-clause-folds c)
