@@ -15,7 +15,7 @@ use Rattle.fv_signal.specs.Value.{StayWithin}
 use Rattle.fv_simplify.specs.Choices.{is_neutral, is_absorbing}
 use Rattle.fv_simplify.specs.Nodes.{node, StandsAt, known, numbers}
 
--- a delay goes back so many samples at most
+-- the most samples that a delay may go back
 abbrev pub limit : ℕ
 limit = DELAY_BUDGET
 
