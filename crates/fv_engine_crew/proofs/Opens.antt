@@ -130,7 +130,8 @@ module _ (k : Start) (opening : IsOpening k) where
             (new_serves (code_of plan j) (argument k.held.now) old.scratch r.scratch) ∣₁;
         lists =
             let all_left : (tasks_in k).vectors - 0 ≡ (tasks_in k).vectors = omega arith in
-            omega (arith, ap (λ (v : ℕ). v * readers_of (tasks_in k) j) all_left, ap (λ (v : Vec (Vec Seen)). length v.items) lists, r.lists_are);
+            λ many.
+            omega (arith, ap (λ (v : ℕ). v * readers_of (tasks_in k) j) all_left, ap (λ (v : Vec (Vec Seen)). length v.items) lists, r.lists_are many);
         roomy = subst (λ (v : Vec (Vec Seen)). AreRoomy v.items (list_room (length (own_lanes plan j)))) (sym lists) r.roomy;
       }
 

@@ -103,6 +103,7 @@ pub record AreSeenOf (k : Start) (lanes : List ℕ) (v : ℕ) (ss : List SeenLan
 
 -- the lanes that go over an edge, in their order
 abbrev pub lanes_seen : SeenLanes → List SeenLane
+lanes_seen many.Nothing = []
 lanes_seen (many.One s) = s ∷ []
 lanes_seen (many.Two s t) = s ∷ t ∷ []
 lanes_seen (many.Many ss) = ss.items
@@ -126,15 +127,15 @@ pub record AreCellsOf (k : Start) (j v : ℕ) (c : LoopCells) : Type 0 where
   pub holds : (f : Content) → IsContentOf k f → (i : ℕ) → i < length k.plan.now.cells → (cells_info k.plan.now i).owner ≡ j
       → list_at (cells_of c) i ≡ f.cells i (upto k v)
 
--- What loop j hands on after v of its vectors: its writers and cells, room for the seen lanes of its sources, scratch for its code,
--- and lists. There are `more` lists more than the readers of its later vectors take.
+-- What loop j hands on after v of its vectors: its writers and cells, room for the seen lanes of its sources, and scratch for its code.
+-- Where more than two lanes are its own, it hands on lists too: `more` lists more than the readers of its later vectors take.
 pub record AreHandedOn (k : Start) (j v more : ℕ) (w : Writers) : Type 0 where
   pub writers : AreWritersOf k (own_lanes k.plan.now j) v w.lanes.own.items
   pub cells : AreCellsOf k j v w.lanes.cells
   pub nothing_seen : w.lanes.seen.items ≡ []
   pub room : length (lanes_of_all k.plan.now (sources_of (tasks_in k) j)) ≤ vec_capacity w.lanes.seen
   pub scratch : ∥ Serves (code_of k.plan.now j) (argument k.held.now) w.scratch ∥₁
-  pub lists : ((tasks_in k).vectors - v) * readers_of (tasks_in k) j + more ≤ length w.lists.items
+  pub lists : 3 ≤ length (own_lanes k.plan.now j) → ((tasks_in k).vectors - v) * readers_of (tasks_in k) j + more ≤ length w.lists.items
   pub roomy : AreRoomy w.lists.items (list_room (length (own_lanes k.plan.now j)))
 
 -- The content of an edge's parcel: the writers of the edge's loop, or the lanes of the edge's source, as they were seen after the

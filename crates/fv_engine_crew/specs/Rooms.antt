@@ -11,15 +11,15 @@ use Rattle.fv_engine_codes.specs.declared.loop_cells.LoopCells.{LoopCells}
 use Rattle.fv_engine_crew.specs.Contents.{list_room, AreRoomy}
 use Rattle.fv_engine_crew.specs.declared.content.Writers.{Writers}
 
--- Empty lists of one loop: room for `own` lanes of its own and for `seen` seen ones, and scratch for `steps` steps. Then `lists`
--- lists, each with room for the lanes of its own where they go in a list.
+-- Empty lists of one loop: room for `own` lanes of its own and for `seen` seen ones, and scratch for `steps` steps. Where more than
+-- two lanes are its own, `lists` lists come with it, each with room for them.
 pub record IsRoom (own seen steps lists : ℕ) (w : Writers) : Type 0 where
   pub nothing : w.lanes.own.items ≡ []
   pub own_room : own ≤ vec_capacity w.lanes.own
   pub nothing_seen : w.lanes.seen.items ≡ []
   pub seen_room : seen ≤ vec_capacity w.lanes.seen
   pub scratch : IsNew steps w.scratch
-  pub lists_are : length w.lists.items ≡ lists
+  pub lists_are : 3 ≤ own → length w.lists.items ≡ lists
   pub roomy : AreRoomy w.lists.items (list_room own)
 
 -- the cells of loop j, as many as stand at its number

@@ -9,7 +9,7 @@ ghost use Rattle.fv_lines.specs.Seen.{lane_seen};
 ghost use Rattle.fv_lines.specs.Writer.{lane_written};
 ghost use Rattle.fv_engine_codes.specs.Lanes.{state_in, AreLanesValid, rest_in};
 ghost use Rattle.fv_engine_crew.specs.Bodies.{IsBody};
-ghost use Rattle.fv_engine_crew.specs.Contents.{lanes_seen, list_room, AreSeenOf, AreHandedOn, IsRealStart, tasks_in};
+ghost use Rattle.fv_engine_crew.specs.Contents.{lanes_seen, list_room, AreRoomy, AreSeenOf, AreHandedOn, IsRealStart, tasks_in};
 ghost use Rattle.fv_engine_crew.specs.inner.Turns.{Known, Before, After, IsPairAt, IsPairFrom, IsChainAt, lanes_by};
 
 use crate::content::{Content, SeenLanes, Writers};
@@ -32,21 +32,48 @@ pub struct LoopBody<'a, 'b> {
     ghost real: { ∥ IsRealStart start ∥₁ },
 }
 
-// These lanes, as they are now. More than two fill the list.
-fn see<'a>(own: &[LaneWriter<'a>], mut list: Vec<Seen<'a>>) -> SeenLanes<'a>
-    requires { (list.items ≡ []) × (list_room (length own.now) ≤ vec_capacity list) }
-    ensures { map lane_seen (lanes_seen result) ≡ map lane_written own.now }
+// These lanes, as they are now, in a list that has room for them.
+fn see_in<'a>(own: &[LaneWriter<'a>], mut list: Vec<Seen<'a>>) -> Vec<Seen<'a>>
+    requires { (list.items ≡ []) × (length own.now ≤ vec_capacity list) }
+    ensures { map lane_seen result.items ≡ map lane_written own.now }
 {
+    for writer in own {
+        list.push_reserved(writer.seen());
+    }
+    list
+}
+
+// More than two lanes, as they are now, in the last of the lists.
+fn see_many<'a>(own: &[LaneWriter<'a>], lists: &mut Vec<Vec<Seen<'a>>>) -> Vec<Seen<'a>>
+    requires many { 3 ≤ length own.now }
+    requires some { 0 < length lists.old.items }
+    requires roomy { AreRoomy lists.old.items (list_room (length own.now)) }
+    ensures seen { map lane_seen result.items ≡ map lane_written own.now }
+    ensures lists { length lists.old.items ≤ length lists.new.items + 1 }
+    ensures roomy { AreRoomy lists.new.items (list_room (length own.now)) }
+{
+    let list = lists.pop().unwrap();
+    see_in(own, list)
+}
+
+// These lanes, as they are now. More than two go in the last of the lists.
+fn see<'a>(own: &[LaneWriter<'a>], lists: &mut Vec<Vec<Seen<'a>>>) -> SeenLanes<'a>
+    requires some { 3 ≤ length own.now → 0 < length lists.old.items }
+    requires roomy { AreRoomy lists.old.items (list_room (length own.now)) }
+    ensures seen { map lane_seen (lanes_seen result) ≡ map lane_written own.now }
+    ensures lists { 3 ≤ length own.now → length lists.old.items ≤ length lists.new.items + 1 }
+    ensures roomy { AreRoomy lists.new.items (list_room (length own.now)) }
+{
+    if own.is_empty() {
+        return SeenLanes::Nothing;
+    }
     if own.len() == 1 {
         return SeenLanes::One(own[0].seen());
     }
     if own.len() == 2 {
         return SeenLanes::Two(own[0].seen(), own[1].seen());
     }
-    for writer in own {
-        list.push_reserved(writer.seen());
-    }
-    SeenLanes::Many(list)
+    SeenLanes::Many(see_many(own, lists))
 }
 
 impl<'a, 'b> LoopBody<'a, 'b> {
@@ -147,8 +174,8 @@ impl<'a, 'b> LoopBody<'a, 'b> {
     {
         let last = edges.len() - 1;
         for i in 0..last {
-            let list = writers.lists.pop().unwrap();
-            let lanes = see(writers.lanes.own.as_slice(), list);
+            let room = &mut *writers;
+            let lanes = see(room.lanes.own.as_slice(), &mut room.lists);
             let parcel = LoopParcel::new(edges[last - i], &self.start, Content::Seen(lanes));
             parcels.push_reserved(parcel);
         }

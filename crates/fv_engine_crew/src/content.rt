@@ -7,9 +7,8 @@ use fv_engine_codes::LoopLanes;
 use fv_lines::Seen;
 use fv_loopcode_machine::Scratch;
 
-/// What a loop's task hands to the loop's next task: its lane writers and cells, and the scratch that its code works in. Beside
-/// them it has an empty list for each parcel of seen lanes that is to come. Such a list has room only where more than two lanes go
-/// into it.
+/// What a loop's task hands to the loop's next task: its lane writers and cells, and the scratch that its code works in. Where more
+/// than two lanes go into a parcel of seen lanes, it has an empty list for each such parcel that is to come.
 #[derive(Drop)]
 pub struct Writers<'a, 'b> {
     pub lanes: LoopLanes<'a, 'b>,
@@ -20,6 +19,7 @@ pub struct Writers<'a, 'b> {
 /// The lanes of a loop, as they were seen. Most loops have one, or two where they feed a signal back, and these need no list.
 #[derive(Drop)]
 pub enum SeenLanes<'a> {
+    Nothing,
     One(Seen<'a>),
     Two(Seen<'a>, Seen<'a>),
     Many(Vec<Seen<'a>>),
@@ -33,6 +33,7 @@ impl<'a> SeenLanes<'a> {
         ensures room { vec_capacity list.old ≤ vec_capacity list.new }
     {
         match self {
+            SeenLanes::Nothing => {}
             SeenLanes::One(lane) => list.push_reserved(*lane),
             SeenLanes::Two(first, second) => {
                 list.push_reserved(*first);

@@ -1,6 +1,6 @@
 // What the lists of a block take of memory, before any lane is begun.
 
-ghost use Rattle.std.specs.Prelude.{◌≡◌, ◌+◌, ◌*◌, ◌<◌, length, IfOk, vec_len};
+ghost use Rattle.std.specs.Prelude.{◌≡◌, ◌+◌, ◌*◌, ◌<◌, ◌≤◌, length, IfOk, vec_len};
 ghost use Rattle.fv_engine_codes.specs.Cells.{ArePlaced};
 ghost use Rattle.fv_split_plan.specs.headline.View.{code_of};
 ghost use Rattle.fv_engine_codes.specs.Plans.{own_lanes, sources_of, lanes_of_all, readers_of};
@@ -36,6 +36,13 @@ fn room_of_list(lanes: u64) -> u64
     ensures { result ≡ list_room lanes }
 {
     if lanes < 3 { 0 } else { lanes }
+}
+
+// How many lists a loop of so many lanes needs, where so many parcels with them are to come: none where they go without.
+fn count_lists(lanes: u64, parcels: u64) -> u64
+    ensures { 3 ≤ lanes → result ≡ parcels }
+{
+    if lanes < 3 { 0 } else { parcels }
 }
 
 // How many loops read a loop.
@@ -78,8 +85,8 @@ fn loop_cells<'b>(
     })
 }
 
-// The lists of one loop: for its own lanes, for the lanes that it sees, and lists for the lanes that it hands to those that read it; its
-// scratch, and its cells.
+// The lists of one loop: for its own lanes, for the lanes that it sees, and, where they go in lists, for the lanes that it hands to those
+// that read it; its scratch, and its cells.
 fn loop_room<'a, 'b>(
     alloc: Global,
     cells: LoopCells<'b>,
@@ -94,7 +101,11 @@ fn loop_room<'a, 'b>(
 {
     let own = Vec::with_capacity(alloc, count.own as usize)?;
     let seen = Vec::with_capacity(alloc, count.seen as usize)?;
-    let lists = seen_lists(alloc, lists, room_of_list(count.own))?;
+    let lists = seen_lists(
+        alloc,
+        count_lists(count.own, lists),
+        room_of_list(count.own),
+    )?;
     Ok(Writers {
         lanes: LoopLanes { own, seen, cells },
         scratch,

@@ -1,7 +1,7 @@
 -- What a task hands on.
 use Rattle.std.proofs.Common.{◌≡◌, ℕ, zero, suc, ◌+◌, ◌-◌, ◌/◌, ◌<◌, ◌≤◌, List, [], ◌∷◌, ◌++◌, length, map}
-use Rattle.std.proofs.Common.{drop, get_or, refl, sym, ap, ◌∙◌, subst, arith, Bool, true, false, true≢false, vec_capacity, inl, inr}
-use Rattle.std.proofs.lemmas.Bool.{cases_lt}
+use Rattle.std.proofs.Common.{nat_lt, drop, get_or, refl, sym, ap, ◌∙◌, subst, arith, Bool, true, false, true≢false, vec_capacity, inl, inr}
+use Rattle.std.proofs.lemmas.Bool.{cases_lt, cond-false, le-ltb}
 use Rattle.std.specs.Prelude.{reverse, All, slice_index}
 use Rattle.std.specs.Global.{Vec, Box}
 use Rattle.std.proofs.lemmas.List.{length-append, length-map, get_or_append_left, get_or-map, reverse-append}
@@ -13,7 +13,7 @@ use Rattle.fv_lines.specs.Seen.{lane_seen}
 use Rattle.fv_lines.specs.declared.seen.Seen.{Seen}
 use Rattle.fv_lines.specs.declared.writer.LaneWriter.{LaneWriter}
 use Rattle.fv_engine_codes.specs.Plans.{own_lanes}
-use Rattle.fv_engine_crew.specs.Contents.{tasks_in, upto, lanes_seen, AreWritersOf, AreSeenOf, AreRoomy, AreHandedOn, IsContent}
+use Rattle.fv_engine_crew.specs.Contents.{tasks_in, upto, lanes_seen, list_room, AreWritersOf, AreSeenOf, AreRoomy, AreHandedOn, IsContent}
 use Rattle.fv_lines.specs.Writer.{lane_written}
 use Rattle.fv_engine_crew.specs.inner.Turns.{IsPairFrom, IsChainAt}
 use Rattle.fv_engine_crew.specs.declared.start.Start.{Start}
@@ -86,6 +86,10 @@ content_writers k j v e w c h = record {
   );
   seen = λ ss q. absurd (true≢false (sym (ap is_seen q)));
 }
+
+-- more than two lanes go in a list
+pub many_room : (n : ℕ) → 3 ≤ n → list_room n ≡ n
+many_room n l = cond-false (nat_lt n 3) 0 n (le-ltb n 3 l)
 
 -- what lists say of which one was taken from the end
 pub record Taken (lists : List (Vec Seen)) (l : Vec Seen) (room : ℕ) : Type 0 where

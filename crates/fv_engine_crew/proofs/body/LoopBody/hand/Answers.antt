@@ -1,15 +1,12 @@
 use Rattle.std.proofs.Common.{◌≡◌, ℕ, suc, ◌+◌, ◌-◌, ◌≤◌, vec_capacity, ◌++◌, List, [], ◌∷◌, length, map, drop, get_or, subst, sym, refl, ap, ◌∙◌, arith}
-use Rattle.std.specs.Prelude.{reverse, All, option_to_list}
-use Rattle.std.specs.Global.{Vec}
-use Rattle.std.proofs.lemmas.List.{length-append}
-use Rattle.fv_lines.specs.declared.seen.Seen.{Seen}
+use Rattle.std.specs.Prelude.{reverse, All}
 use Rattle.fv_lines.specs.declared.writer.LaneWriter.{LaneWriter}
 use Rattle.fv_engine_codes.specs.Plans.{own_lanes}
 use Rattle.fv_engine_crew.specs.Contents.{lanes_seen, list_room, AreWritersOf, AreRoomy, AreHandedOn}
 use Rattle.fv_engine_crew.specs.declared.start.Start.{Start}
 use Rattle.fv_engine_crew.specs.declared.content.Writers.{Writers}
 use Rattle.fv_engine_crew.specs.declared.parcel.LoopParcel.{LoopParcel}
-use Rattle.fv_engine_crew.proofs.lemmas.Handing.{seen_written, content_seen, content_writers, Taken, taken, one_edge, drop_all, edges_push, keys_push}
+use Rattle.fv_engine_crew.proofs.lemmas.Handing.{seen_written, content_seen, content_writers, one_edge, drop_all, edges_push, keys_push}
 use Rattle.fv_engine_crew.proofs.body.LoopBody.hand.Goals as goal
 
 pub loop-i-init : goal.loop-i-init
@@ -27,19 +24,6 @@ loop-i-init c =
       room = refl;
     }
 
-pub unwrap-list-requires : goal.unwrap-list-requires
-unwrap-list-requires c =
-    let k : Start = c.args.self.now.start in
-    let j : ℕ = c.args.task.loop_no in
-    let v : ℕ = c.args.task.vector in
-    let es : List ℕ = c.args.edges.now in
-    let n : ℕ = length es in
-    let i : ℕ = c.loop-i.i in
-    let ws : Writers = c.deref_mut.result.now in
-    let h : AreHandedOn k j (v + 1) (n - 1 - i) ws =
-    subst (λ (w : Writers). AreHandedOn k j (v + 1) (n - 1 - i) w) (sym c.deref_mut.ensures.value) c.loop-i.invariant.writers in
-    c.pop.ensures.variant.1 (omega (arith, h.lists, c.loop-i-test.true, ws.lists.ok))
-
 pub see-lanes-requires : goal.see-lanes-requires
 see-lanes-requires c =
     let k : Start = c.args.self.now.start in
@@ -48,16 +32,14 @@ see-lanes-requires c =
     let es : List ℕ = c.args.edges.now in
     let n : ℕ = length es in
     let i : ℕ = c.loop-i.i in
-    let ws : Writers = c.deref_mut.result.now in
+    let ws : Writers = c.deref_mut-room.result.now in
     let h : AreHandedOn k j (v + 1) (n - 1 - i) ws =
-    subst (λ (w : Writers). AreHandedOn k j (v + 1) (n - 1 - i) w) (sym c.deref_mut.ensures.value) c.loop-i.invariant.writers in
-    let list : Vec Seen = c.unwrap-list.result in
-    let lists : List (Vec Seen) = c.pop.new.self.items in
-    let room : ℕ = list_room (length (own_lanes k.plan.now j)) in
-    let items : ws.lists.items ≡ lists ++ list ∷ [] = c.pop.ensures.items ∙ ap (λ o. lists ++ option_to_list o) c.unwrap-list.ensures in
-    let t : Taken lists list room = taken lists list room (subst (λ (ls : List (Vec Seen)). AreRoomy ls room) items h.roomy) in
-    let own : c.as_slice.result.now ≡ ws.lanes.own.items = c.as_slice.ensures.value ∙ ap (λ (w : Writers). w.lanes.own.items) c.deref.ensures in
-    (t.empty, subst (λ (n : ℕ). list_room n ≤ vec_capacity list) (sym (ap length own ∙ h.writers.count)) t.roomy)
+    subst (λ (w : Writers). AreHandedOn k j (v + 1) (n - 1 - i) w) (sym c.deref_mut-room.ensures.value) c.loop-i.invariant.writers in
+    let count : length c.as_slice.result.now ≡ length (own_lanes k.plan.now j) = ap length c.as_slice.ensures.value ∙ h.writers.count in
+    record {
+      some = λ many. omega (arith, h.lists (omega (arith, many, count)), c.loop-i-test.true);
+      roomy = subst (λ (m : ℕ). AreRoomy ws.lists.items (list_room m)) (sym count) h.roomy;
+    }
 
 pub new-parcel-requires : goal.new-parcel-requires
 new-parcel-requires c =
@@ -67,13 +49,13 @@ new-parcel-requires c =
     let es : List ℕ = c.args.edges.now in
     let n : ℕ = length es in
     let i : ℕ = c.loop-i.i in
-    let ws : Writers = c.deref_mut.result.now in
+    let ws : Writers = c.deref_mut-room.result.now in
     let h : AreHandedOn k j (v + 1) (n - 1 - i) ws =
-    subst (λ (w : Writers). AreHandedOn k j (v + 1) (n - 1 - i) w) (sym c.deref_mut.ensures.value) c.loop-i.invariant.writers in
-    let own : c.as_slice.result.now ≡ ws.lanes.own.items = c.as_slice.ensures.value ∙ ap (λ (w : Writers). w.lanes.own.items) c.deref.ensures in
+    subst (λ (w : Writers). AreHandedOn k j (v + 1) (n - 1 - i) w) (sym c.deref_mut-room.ensures.value) c.loop-i.invariant.writers in
+    let own : c.as_slice.result.now ≡ ws.lanes.own.items = c.as_slice.ensures.value in
     content_seen k j v (get_or es (n - 1 - i) 0) c.see-lanes.result
     (c.requires.pairs (n - 1 - i) (omega (arith, c.loop-i-test.true)) (omega (arith, c.loop-i-test.true, c.requires.some)))
-    (seen_written k (own_lanes k.plan.now j) (v + 1) c.as_slice.result.now (lanes_seen c.see-lanes.result) c.see-lanes.ensures
+    (seen_written k (own_lanes k.plan.now j) (v + 1) c.as_slice.result.now (lanes_seen c.see-lanes.result) c.see-lanes.ensures.seen
     (subst (λ (xs : List LaneWriter). AreWritersOf k (own_lanes k.plan.now j) (v + 1) xs) (sym own) h.writers))
 
 pub push_reserved-requires : goal.push_reserved-requires
@@ -88,14 +70,10 @@ loop-i-preserved c =
     let es : List ℕ = c.args.edges.now in
     let n : ℕ = length es in
     let i : ℕ = c.loop-i.i in
-    let ws : Writers = c.deref_mut.result.now in
+    let ws : Writers = c.deref_mut-room.result.now in
     let h : AreHandedOn k j (v + 1) (n - 1 - i) ws =
-    subst (λ (w : Writers). AreHandedOn k j (v + 1) (n - 1 - i) w) (sym c.deref_mut.ensures.value) c.loop-i.invariant.writers in
-    let list : Vec Seen = c.unwrap-list.result in
-    let lists : List (Vec Seen) = c.pop.new.self.items in
-    let room : ℕ = list_room (length (own_lanes k.plan.now j)) in
-    let items : ws.lists.items ≡ lists ++ list ∷ [] = c.pop.ensures.items ∙ ap (λ o. lists ++ option_to_list o) c.unwrap-list.ensures in
-    let t : Taken lists list room = taken lists list room (subst (λ (ls : List (Vec Seen)). AreRoomy ls room) items h.roomy) in
+    subst (λ (w : Writers). AreHandedOn k j (v + 1) (n - 1 - i) w) (sym c.deref_mut-room.ensures.value) c.loop-i.invariant.writers in
+    let count : length c.as_slice.result.now ≡ length (own_lanes k.plan.now j) = ap length c.as_slice.ensures.value ∙ h.writers.count in
     let e : ℕ = get_or es (n - 1 - i) 0 in
     let more : n - i ≡ suc (n - 1 - i) = omega (arith, c.loop-i-test.true) in
     let less : n - 1 - i ≡ n - (i + 1) = omega arith in
@@ -106,8 +84,8 @@ loop-i-preserved c =
         nothing_seen = h.nothing_seen;
         room = h.room;
         scratch = h.scratch;
-        lists = omega (arith, h.lists, c.loop-i-test.true, ap length items, length-append lists (list ∷ []));
-        roomy = t.others;
+        lists = λ many. omega (arith, h.lists many, c.loop-i-test.true, c.see-lanes.ensures.lists (omega (arith, many, count)));
+        roomy = subst (λ (m : ℕ). AreRoomy c.see-lanes.new.lists.items (list_room m)) count c.see-lanes.ensures.roomy;
       };
       edges = ap (map (λ (p : LoopParcel). p.edge)) c.push_reserved.ensures.items
           ∙ edges_push c.loop-i.parcels.items c.new-parcel.result e c.new-parcel.ensures.0

@@ -241,8 +241,14 @@ hand-requires-clause-writers c =
           let local : IsLocalCode k.plan.now (tasks_in k) j (slice_index_or c.args.self.now.codes.now j []) = b.codes_are j c.requires.task.0 in
           serves_as_before local.place (code_of k.plan.now j) (argument k.held.now) c.run_code.new.writers.scratch
           (subst (λ (ss : List Step). Serves ss (argument k.held.now) c.run_code.new.writers.scratch) local.is c.run_code.ensures.scratch)));
-      lists = omega
-          (arith, now.lists, step, ap length out, length-map ks (λ (i : ℕ). pair_edge (tasks_in k) i v), ap (λ (l : Vec (Vec Seen)). length l.items) lists);
+      lists = λ many. omega (
+        arith,
+        now.lists many,
+        step,
+        ap length out,
+        length-map ks (λ (i : ℕ). pair_edge (tasks_in k) i v),
+        ap (λ (l : Vec (Vec Seen)). length l.items) lists,
+      );
       roomy = subst (λ (l : Vec (Vec Seen)). AreRoomy l.items (list_room (length own))) (sym lists) now.roomy;
     }
 
