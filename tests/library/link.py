@@ -166,6 +166,19 @@ ROWS = [
         b"process = aa_part(_, 9);\n// linked from p.dsp\n// from library/aa.dsp:20, where wraps are meant\naa_turn(p) = p + 1073741824;\n"
         b"// from library/aa.dsp:25, where wraps and zeros are meant\naa_part(p, n) = aa_turn(p) / n;\n",
     ),
+    Call(
+        "a file of jobs, each of which gets what it needs", ["p.dsp"],
+        b"process = aa_add;\r\n%%\r\nprocess = 1;\n%%\n/*\n%%\n*/ process = aa_add;\n%%",
+        b"process = aa_add;\r\n// linked from p.dsp\n// from library/aa.dsp:12\naa_add = + ;\n%%\r\n// from p.dsp:3\nprocess = 1;\n%%\n"
+        b"// from p.dsp:5\n/*\n%%\n// from p.dsp:7\n*/ process = aa_add;\n// linked from p.dsp\n// from library/aa.dsp:12\naa_add = + ;\n%%",
+        "link: p.dsp: nothing is linked, since a comment in it never ends\n",
+    ),
+    Call("jobs that need nothing stay", ["p.dsp"], b"process = _;\n%%\nprocess = 1;", b"process = _;\n%%\nprocess = 1;\n"),
+    Call(
+        "a line %% in a comment separates nothing", ["p.dsp"],
+        b"/*\n%%\n*/ process = aa_add;\n",
+        b"/*\n%%\n*/ process = aa_add;\n// linked from p.dsp\n// from library/aa.dsp:12\naa_add = + ;\n",
+    ),
     Call("a linked text needs nothing more", ["p.dsp"], b"process = aa_two(3);\n" + TWO, b"process = aa_two(3);\n" + TWO),
     Call(
         "standard input", ["-"],
