@@ -38,7 +38,7 @@ fn room_of_list(lanes: u64) -> u64
     if lanes < 3 { 0 } else { lanes }
 }
 
-// How many lists a loop of so many lanes needs, where so many parcels with them are to come: none where they go without.
+// How many lists a loop of `lanes` lanes needs for `parcels` parcels of them that are to come: none where a parcel holds them itself.
 fn count_lists(lanes: u64, parcels: u64) -> u64
     ensures { 3 ≤ lanes → result ≡ parcels }
 {
