@@ -1,5 +1,5 @@
 -- How the forms begin.
-use Rattle.std.proofs.Common.{inr, ◌≡◌, ℕ, suc, ◌+◌, ◌<◌, List, [], ◌∷◌, length, drop, map, Result, Ok, Err, refl, sym, ap, subst, ◌∙◌, arith}
+use Rattle.std.proofs.Common.{inr, ◌≡◌, ℕ, ◌<◌, List, [], ◌∷◌, length, drop, map, Result, Ok, Err, refl, sym, ap, subst, ◌∙◌}
 use Rattle.std.specs.Prelude.{ℤ}
 use Rattle.fv_parse.specs.Token.{Lexed}
 use Rattle.fv_parse_grammar.specs.headline.Tree.{Tree, items, start_of, End}
@@ -13,7 +13,7 @@ use Rattle.fv_rules.specs.declared.refusal.EvalRefusal.{EvalRefusal}
 use Rattle.fv_eval_scopes.specs.declared.value.Value.TheVariants as value
 use Rattle.fv_eval_scopes.specs.declared.value.Ruled.TheVariants as ruled
 use Rattle.fv_eval_scopes.specs.declared.value.Scope.TheVariants as scope
-use Rattle.fv_eval_scopes.specs.Environments.{Environments, with_scope}
+use Rattle.fv_eval_scopes.specs.Environments.{Environments, next_number, with_scope}
 use Rattle.fv_rules.specs.headline.Values.{Env, Scope, Abstraction, Rules, Nothing, rule_of}
 use Rattle.fv_rules.specs.headline.Steps.{State, no_diagram}
 use Rattle.fv_rules.specs.headline.Rules.{slider_kind}
@@ -28,17 +28,16 @@ use Rattle.fv_eval.proofs.Moves.{scoped_grew, steps_on, visits}
 use Rattle.fv_eval.proofs.SliderLemmas.{GoesOn}
 
 -- a tree among definitions
-pub among_goes : (p : Parsed) (m : code_machine.Machine) (new : Environments) (list id e inner : ℕ) (ds x : Tree) (E : Env) → inner ≡ length m.scopes.scopes + 1
+pub among_goes : (p : Parsed) (m : code_machine.Machine) (new : Environments) (list id e inner : ℕ) (ds x : Tree) (E : Env) → inner ≡ next_number m.scopes.scopes
     → new ≡ with_scope m.scopes (scope.Definitions list e) → ShowsTree (world p m) list ds → ShowsTree (world p m) id x → ShowsEnv (world p m) e E
     → Steps p m (record m { scopes = new }) (Ok (focus.Visit id inner)) (λ Fs s. Running (Visit x (Scope ds E)) Fs s)
 among_goes p m new list id e inner ds x E i is t u h =
     let n : code_machine.Machine = record m { scopes = new } in
-    let k : suc (length m.scopes.scopes) ≡ inner = omega (arith, i) in
-    let opened : ShowsEnv (world p (record m { scopes = with_scope m.scopes (scope.Definitions list e) })) (suc (length m.scopes.scopes)) (Scope ds E) =
+    let opened : ShowsEnv (world p (record m { scopes = with_scope m.scopes (scope.Definitions list e) })) (next_number m.scopes.scopes) (Scope ds E) =
     opened_shows (world p m) list ds e E t h in
     let shown : ShowsEnv (world p n) inner (Scope ds E) =
-    subst (λ (j : ℕ). ShowsEnv (world p n) j (Scope ds E)) k
-    (subst (λ (w : Environments). ShowsEnv (world p (record m { scopes = w })) (suc (length m.scopes.scopes)) (Scope ds E)) (sym is) opened) in
+    subst (λ (j : ℕ). ShowsEnv (world p n) j (Scope ds E)) (sym i)
+    (subst (λ (w : Environments). ShowsEnv (world p (record m { scopes = w })) (next_number m.scopes.scopes) (Scope ds E)) (sym is) opened) in
     steps_on p m n n (Ok (focus.Visit id inner))
     (λ Fs s. Running (Visit x (Scope ds E)) Fs s) (scoped_grew p m new (scope.Definitions list e) is) (visits p n id inner x (Scope ds E) u shown)
 

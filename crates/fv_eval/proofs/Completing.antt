@@ -1,5 +1,5 @@
 -- The last argument that a function wants.
-use Rattle.std.proofs.Common.{inr, ◌≡◌, ℕ, ◌+◌, ◌<◌, List, [], ◌∷◌, ◌++◌, length, drop, Option, Some, None, Result, Err, All, refl, sym, ap, subst, ◌∙◌}
+use Rattle.std.proofs.Common.{inr, ◌≡◌, ℕ, ◌<◌, List, [], ◌∷◌, ◌++◌, length, drop, Option, Some, None, Result, Err, All, refl, sym, ap, subst, ◌∙◌}
 use Rattle.std.specs.Prelude.{slice_get}
 use Rattle.std.proofs.lemmas.List.Elements.{All-nil}
 use Rattle.fv_parse_grammar.specs.headline.Tree.{Tree, start_of}
@@ -15,7 +15,7 @@ use Rattle.fv_eval_scopes.specs.declared.value.Ruled.{Ruled}
 use Rattle.fv_eval_scopes.specs.declared.value.Scope.TheVariants as scope
 use Rattle.fv_eval_scopes.specs.declared.value.Argument as code_argument
 use Rattle.fv_eval_scopes.specs.declared.value.Binding as code_binding
-use Rattle.fv_eval_scopes.specs.Environments.{Environments, with_scope}
+use Rattle.fv_eval_scopes.specs.Environments.{Environments, next_number, with_scope}
 use Rattle.fv_rules.specs.headline.Values.{Value, Flat, Abstraction, Rules, Env, Bound, Taken, Nothing, And, in_order}
 use Rattle.fv_rules.specs.headline.Matching.{Bindings, bound_in, chosen}
 use Rattle.fv_rules.specs.headline.Steps.{no_rule}
@@ -27,7 +27,8 @@ use Rattle.fv_eval_scopes.proofs.lemmas.Grown.{env_grows, tree_grows, values_gro
 use Rattle.fv_rules.specs.Machine.{Leftover, Valued, Visit, Running, Ended, select}
 use Rattle.fv_eval.specs.declared.continuation.Focus as code_focus
 use Rattle.fv_eval.specs.declared.machine.Machine as code_machine
-use Rattle.fv_eval.specs.inner.Continuations.{AllDraw, AreShown, Chooses, Completes, Grew, IsShown, Selects, ShowsName, Steps, completed, world}
+use Rattle.fv_eval.specs.inner.Continuations.{AllDraw, AreShown, Chooses, Completes, Grew, IsShown, Selects, Steps, completed, world}
+use Rattle.fv_eval_lookup.specs.Parameters.{ShowsName}
 use Rattle.fv_eval.proofs.Moves.{knows_scoped, scoped_grew, steps_on}
 use Rattle.fv_eval.proofs.Places.{drop_at_get}
 use Rattle.fv_eval.proofs.Received.{Feeds}
@@ -53,7 +54,7 @@ pub abstraction_completes : (p : Parsed)
     (m n : code_machine.Machine) (r : Result code_focus.Focus EvalRefusal) (new : Environments) (app f k e i name body : ℕ) (u : code_value.Value)
     (us : List code_value.Value) (at : ℕ)
     → (0 < length (parameters_in p.tokens (tree_in p f)) → ShowsName p.tokens (Some name) (slice_get (parameters_in p.tokens (tree_in p f)) k))
-    → slice_get us at ≡ Some u → i ≡ length m.scopes.scopes + 1 → new ≡ with_scope m.scopes (scope.Bound name u e)
+    → slice_get us at ≡ Some u → i ≡ next_number m.scopes.scopes → new ≡ with_scope m.scopes (scope.Bound name u e)
     → body < size_of p → tree_in p body ≡ body_in (tree_in p f) → Leaves p (record m { scopes = new }) n r app body i us at
     → Completes p m n r app (value.Abstraction f k e) us at
 abstraction_completes p m n r new app f k e i name body u us at named got place is inside same go s x ys (Abstraction y xs b E) a more t h none g =

@@ -1,5 +1,5 @@
 -- The count and the bodies of an iteration.
-use Rattle.std.proofs.Common.{◌≡◌, ℕ, zero, suc, ◌+◌, ◌<◌, false, List, [], ◌∷◌, length, Option, Some, Vec, Result, ℤ, pos, negsuc, refl, sym, ap, subst, ◌∙◌}
+use Rattle.std.proofs.Common.{◌≡◌, ℕ, zero, suc, ◌<◌, false, List, [], ◌∷◌, length, Option, Some, Vec, Result, ℤ, pos, negsuc, refl, sym, ap, subst, ◌∙◌}
 use Rattle.std.specs.declared.alloc.Global.{Global}
 use lib.Signed.{lt_z}
 use Rattle.std.proofs.lemmas.List.Elements.{All-nil}
@@ -14,7 +14,7 @@ use Rattle.fv_eval_drawing.specs.Makes.{AddsDiagrams, Canvas, Draws as IsDrawn, 
 use Rattle.fv_rules.specs.declared.refusal.EvalRefusal.{EvalRefusal}
 use Rattle.fv_eval_scopes.specs.declared.value.Value.TheVariants as value
 use Rattle.fv_eval_scopes.specs.declared.value.Scope.TheVariants as scope
-use Rattle.fv_eval_scopes.specs.Environments.{Environments, with_scope}
+use Rattle.fv_eval_scopes.specs.Environments.{Environments, next_number, with_scope}
 use Rattle.fv_rules.specs.headline.Values.{Flat, Env, Bound}
 use Rattle.fv_rules.specs.Numbers.{number_of}
 use Rattle.fv_rules.specs.headline.Rules.{counted, gathered}
@@ -89,7 +89,7 @@ pub body_waits : (p : Parsed) (m n : code_machine.Machine) (r : Result code_focu
     (index : ℤ) (done : Vec ℕ Global) → tree_in p a ≡ tree.Iteration t0 q0 y0 c0 b0 → left ≡ suc left1 → index ≡ pos (length done.items)
     → AddsDiagrams m.drawing d → IsDrawn d.diagrams number (Constant index) → text_of p.tokens name ≡ text_of p.tokens y0
     → first_named p.tokens name ≡ name
-    → inner ≡ length m.scopes.scopes + 1 → s ≡ with_scope m.scopes (scope.Bound name (value.Diagram number) e)
+    → inner ≡ next_number m.scopes.scopes → s ≡ with_scope m.scopes (scope.Bound name (value.Diagram number) e)
     → body < size_of p → tree_in p body ≡ b0 → AreIndexed (suc (length done.items)) left1
     → ((F : Continuation) (x : Tree) (E : Env) → ShowsContinuation (world p (record m { drawing = d; scopes = s }))
     (continuation.Drawn (drawn.Body a e left1 done)) F

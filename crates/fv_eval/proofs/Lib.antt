@@ -13,7 +13,6 @@ pub mod Moves
 pub mod Places
 pub mod Runs
 pub mod Applied
-pub mod Parameters
 pub mod Others
 pub mod Named
 pub mod Controlled

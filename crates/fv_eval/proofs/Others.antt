@@ -1,27 +1,15 @@
 -- Nodes of other forms.
 use Rattle.std.proofs.Common.{◌≡◌, ℕ, List, [], ◌∷◌, None, Vec, refl}
 use Rattle.std.specs.declared.alloc.Global.{Global}
-use Rattle.fv_parse.specs.Token.{Lexed}
 use Rattle.fv_parse.specs.TreeId.{TreeId}
 use Rattle.fv_parse.specs.TreeNode.{TreeNode}
 use Rattle.fv_parse.specs.TreeNode.TheVariants as nodes
 use Rattle.fv_parse.specs.Arena.{tree_of, forest}
 use Rattle.fv_parse_grammar.specs.Slider.{Slider as SliderKind}
 use Rattle.fv_parse_grammar.specs.headline.Tree.{Tree, End}
-use Rattle.fv_eval_scopes.specs.Shows.{body_in, parameters_in}
-use Rattle.fv_eval.specs.inner.Continuations.{name_of, parameters_of}
+use Rattle.fv_eval_scopes.specs.Shows.{body_in}
+use Rattle.fv_eval.specs.inner.Continuations.{parameters_of}
 use Rattle.fv_eval.specs.inner.Names.{defined_by}
-
-pub no_parameters : (l : Lexed) (ts : List Tree) (node : TreeNode) (start : ℕ) → ((ns : Vec ℕ Global) (x : TreeId) → node ≡ nodes.Abstraction ns x → ⊥)
-    → ((n : ℕ) (ps x : TreeId) → node ≡ nodes.Function n ps x → ⊥) → parameters_in l (tree_of ts node start) ≡ []
-no_parameters l ts (nodes.Abstraction ns x) start a b = absurd (a ns x refl)
-no_parameters l ts (nodes.Function n ps x) start a b = absurd (b n ps x refl)
-no_parameters l ts (nodes.List ids) start a b = other ids.items
-  where
-    other : (is : List TreeId) → parameters_in l (forest ts is End) ≡ []
-    other [] = refl
-    other (i ∷ is) = refl
-no_parameters l ts node start a b = refl
 
 pub own_body : (ts : List Tree) (node : TreeNode) (start : ℕ) → ((ns : Vec ℕ Global) (x : TreeId) → node ≡ nodes.Abstraction ns x → ⊥)
     → ((n : ℕ) (ps x : TreeId) → node ≡ nodes.Function n ps x → ⊥) → tree_of ts node start ≡ body_in (tree_of ts node start)
@@ -33,15 +21,6 @@ own_body ts (nodes.List ids) start a b = other ids.items
     other [] = refl
     other (i ∷ is) = refl
 own_body ts node start a b = refl
-
-pub no_name : (l : Lexed) (ts : List Tree) (node : TreeNode) (start : ℕ) → ((n : ℕ) → node ≡ nodes.Named n → ⊥) → name_of l (tree_of ts node start) ≡ None
-no_name l ts (nodes.Named n) start a = absurd (a n refl)
-no_name l ts (nodes.List ids) start a = other ids.items
-  where
-    other : (is : List TreeId) → name_of l (forest ts is End) ≡ None
-    other [] = refl
-    other (i ∷ is) = refl
-no_name l ts node start a = refl
 
 pub no_slider : (ts : List Tree) (node : TreeNode) (start : ℕ)
     → ((k : SliderKind) (n : ℕ) (a b c d : TreeId) → node ≡ nodes.Slider k n a b c d → ⊥) → parameters_of (tree_of ts node start) ≡ []

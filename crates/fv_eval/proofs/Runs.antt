@@ -1,5 +1,5 @@
 -- A run of the machine, and what a program stands for.
-use Rattle.std.proofs.Common.{inl, inr, ◌≡◌, ◌⊎◌, ℕ, ◌+◌, ◌<◌, List, [], ◌∷◌, ◌++◌, length, Result, Some, Ok, Err, refl, sym, ap, subst, ◌∙◌, arith}
+use Rattle.std.proofs.Common.{inl, inr, ◌≡◌, ◌⊎◌, ℕ, ◌<◌, List, [], ◌∷◌, ◌++◌, Result, Some, Ok, Err, refl, sym, ap, subst, ◌∙◌, arith}
 use Rattle.std.specs.Prelude.{codes}
 use Rattle.fv_parse.specs.Token.{Lexed}
 use Rattle.fv_parse_grammar.specs.headline.Tree.{Tree}
@@ -14,7 +14,7 @@ use Rattle.fv_rules.specs.declared.refusal.EvalRefusal.TheVariants.{NoMemory}
 use Rattle.fv_eval_scopes.specs.declared.value.Value as code_value
 use Rattle.fv_eval_scopes.specs.declared.value.Value.TheVariants as value
 use Rattle.fv_eval_scopes.specs.declared.value.Scope.TheVariants as scope
-use Rattle.fv_eval_scopes.specs.Environments.{Environments, scope_in, with_scope}
+use Rattle.fv_eval_scopes.specs.Environments.{Environments, next_number, scope_in, with_scope}
 use Rattle.fv_rules.specs.headline.Values.{Value, Flat, Outermost, Scope}
 use Rattle.std.proofs.Common.{ap₂, Bool, true, false}
 use Rattle.std.specs.Prelude.{if◌then◌else◌}
@@ -132,7 +132,7 @@ goes_on p m n f r o mean goes h = (step p.tokens h.0, goes h.0 h.1, mean p.token
 -- a new machine to which its first environment and its first continuation were added
 pub starts : (p : Parsed) (m : code_machine.Machine) (s : Environments) (fs : List code_continuation.Continuation) (root name env : ℕ)
     → IsNew m start
-    → (env ≡ length m.scopes.scopes + 1) × (s ≡ with_scope m.scopes (scope.Definitions root 0))
+    → (env ≡ next_number m.scopes.scopes) × (s ≡ with_scope m.scopes (scope.Definitions root 0))
     → fs ≡ m.continuations ++ continuation.Drawn drawn.Finish ∷ [] → root ≡ p.root
     → root < size_of p → (text_of p.tokens name ≡ codes "process") × (first_named p.tokens name ≡ name)
     → Continues p.tokens p (record m { scopes = s; continuations = fs }) (Ok (focus.Call name env)) (whole p.tokens (program_of p))
@@ -140,7 +140,7 @@ starts p m s fs root name env new opened pushed rooted inside named =
     let x : Tree = program_of p in
     let n : code_machine.Machine = record m { scopes = s; continuations = fs } in
     let outermost : ℕ → Environments = λ i. record { scopes = scope.Definitions i 0 ∷ []; taken = [] } in
-    let one : env ≡ 1 = opened.0 ∙ ap (λ (e : Environments). length e.scopes + 1) new.1 in
+    let one : env ≡ 1 = opened.0 ∙ ap (λ (e : Environments). next_number e.scopes) new.1 in
     let scopes : s ≡ outermost p.root = opened.1 ∙ ap (λ (e : Environments). with_scope e (scope.Definitions root 0)) new.1 ∙ ap outermost rooted in
     let continuations : fs ≡ continuation.Drawn drawn.Finish ∷ [] = pushed
     ∙ ap (λ (xs : List code_continuation.Continuation). xs ++ continuation.Drawn drawn.Finish ∷ []) new.2 in

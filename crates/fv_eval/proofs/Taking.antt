@@ -10,13 +10,14 @@ use Rattle.fv_eval_scopes.specs.declared.value.Value.TheVariants as value
 use Rattle.fv_eval_scopes.specs.declared.value.Ruled.{Ruled}
 use Rattle.fv_eval_scopes.specs.declared.value.Scope.TheVariants as scope
 use Rattle.fv_eval_scopes.specs.declared.value.Argument as code_argument
-use Rattle.fv_eval_scopes.specs.Environments.{Environments, with_argument, with_scope}
+use Rattle.fv_eval_scopes.specs.Environments.{Environments, next_number, with_argument, with_scope}
 use Rattle.fv_rules.specs.headline.Values.{Name, Value, Flat, Abstraction, Rules, Env, Bound, Taken, Nothing, And, count_taken}
 use Rattle.fv_rules.specs.headline.Rules.{width}
 use Rattle.fv_eval_scopes.specs.Shows.{World, IsNamed, ShowsEnv, ShowsTaken, ShowsValue, parameters_in, rules_in}
 use Rattle.fv_eval_scopes.proofs.lemmas.Grown.{argument_comes, bound_shows, env_grows, taken_shows}
 use Rattle.fv_eval.specs.declared.machine.Machine as code_machine
-use Rattle.fv_eval.specs.inner.Continuations.{Grew, IsShown, ShowsName, ShowsTaking, took, world}
+use Rattle.fv_eval.specs.inner.Continuations.{Grew, IsShown, ShowsTaking, took, world}
+use Rattle.fv_eval_lookup.specs.Parameters.{ShowsName}
 use Rattle.fv_eval.proofs.Places.{drop_behind, get_at_drop}
 
 -- the clause of `take`
@@ -26,15 +27,14 @@ Takes p m n u x o = (v a : Value) → ShowsValue (world p m) u v → ShowsValue 
 -- ---- what `bind` and `take` of the environments give
 
 pub bind_shows : (p : Parsed) (m : code_machine.Machine) (new : Environments) (name : ℕ) (u : code_value.Value) (outer i : ℕ) (x : Name) (v : Value) (E : Env)
-    → i ≡ length m.scopes.scopes + 1
+    → i ≡ next_number m.scopes.scopes
     → new ≡ with_scope m.scopes (scope.Bound name u outer) → IsNamed (world p m) name x → ShowsValue (world p m) u v → ShowsEnv (world p m) outer E
     → ShowsEnv (world p (record m { scopes = new })) i (Bound x v E)
 bind_shows p m new name u outer i x v E at is named shown env =
-    let k : suc (length m.scopes.scopes) ≡ i = omega (arith, at) in
-    let bound : ShowsEnv (world p (record m { scopes = with_scope m.scopes (scope.Bound name u outer) })) (suc (length m.scopes.scopes)) (Bound x v E) =
+    let bound : ShowsEnv (world p (record m { scopes = with_scope m.scopes (scope.Bound name u outer) })) (next_number m.scopes.scopes) (Bound x v E) =
     bound_shows (world p m) name x u v outer E named shown env in
-    subst (λ (j : ℕ). ShowsEnv (world p (record m { scopes = new })) j (Bound x v E)) k
-    (subst (λ (s : Environments). ShowsEnv (world p (record m { scopes = s })) (suc (length m.scopes.scopes)) (Bound x v E)) (sym is) bound)
+    subst (λ (j : ℕ). ShowsEnv (world p (record m { scopes = new })) j (Bound x v E)) (sym at)
+    (subst (λ (s : Environments). ShowsEnv (world p (record m { scopes = s })) (next_number m.scopes.scopes) (Bound x v E)) (sym is) bound)
 
 pub argument_grew : (p : Parsed) (m : code_machine.Machine) (new : Environments) (a : code_argument.Argument)
     → new ≡ with_argument m.scopes a → Grew p m (record m { scopes = new })
@@ -119,7 +119,7 @@ pub parameter_takes : (p : Parsed) (m : code_machine.Machine) (new : Environment
     → k ≡ n + 1
     → (0 < length (parameters_in p.tokens (tree_in p f)) → count ≡ length (parameters_in p.tokens (tree_in p f))) → k < count
     → (0 < length (parameters_in p.tokens (tree_in p f)) → ShowsName p.tokens (Some name) (slice_get (parameters_in p.tokens (tree_in p f)) n))
-    → i ≡ length m.scopes.scopes + 1 → new ≡ with_scope m.scopes (scope.Bound name u e)
+    → i ≡ next_number m.scopes.scopes → new ≡ with_scope m.scopes (scope.Bound name u e)
     → ShowsValue (world p m) (value.Abstraction f n e) v
     → ShowsValue (world p m) u a → ShowsTaking (world p (record m { scopes = new })) (Some (value.Abstraction f k i)) (took v a)
 parameter_takes p m new f n k count e i name u (Abstraction x [] b E) a one counted more named at is s t =

@@ -12,8 +12,8 @@ ghost use Rattle.fv_eval.specs.inner.Continuations.{completed, took, world};
 
 use crate::continuation::{Continuation, Focus, ForValue};
 use crate::machine::Machine;
-use crate::names::{body_of, parameter, parameters};
-use fv_eval_lookup::Definitions;
+use crate::names::body_of;
+use fv_eval_lookup::{Definitions, parameter, parameters};
 use fv_eval_patterns::Bindings;
 use fv_eval_scopes::{Ruled, Value};
 use fv_parse::{Tree, TreeId, TreeNode};

@@ -15,10 +15,9 @@ ghost use Rattle.fv_eval.specs.inner.Continuations.{Begins, IsSlider, ShowsConti
 use crate::arrive::give;
 use crate::continuation::{Continuation, Focus, ForDiagram, ForValue};
 use crate::machine::Machine;
-use crate::names::canonical;
 use crate::turn::not_a_diagram;
 use fv_diagram::{Node, Prim};
-use fv_eval_lookup::Definitions;
+use fv_eval_lookup::{Definitions, canonical};
 use fv_eval_scopes::{Ruled, Value};
 use fv_parse::{TreeId, TreeNode};
 use fv_parse_grammar::Literal;

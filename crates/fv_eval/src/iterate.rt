@@ -19,9 +19,8 @@ ghost use Rattle.fv_eval.specs.inner.Continuations.{AreIndexed, IsIteration, Sho
 use crate::arrive::give;
 use crate::continuation::{Continuation, Focus, ForDiagram};
 use crate::machine::Machine;
-use crate::names::canonical;
 use fv_diagram::{DiagramId, Node};
-use fv_eval_lookup::Definitions;
+use fv_eval_lookup::{Definitions, canonical};
 use fv_eval_scopes::Value;
 use fv_parse::{Tree, TreeId, TreeNode};
 use fv_rules::EvalRefusal;

@@ -16,9 +16,9 @@ ghost use Rattle.fv_eval.specs.inner.Continuations.{AllDraw, DrawnThere, IsShown
 use crate::arrive::give;
 use crate::continuation::{Continuation, Focus, ForDiagram};
 use crate::machine::Machine;
-use crate::names::{body_of, parameter, parameters};
-use fv_diagram::{DiagramId, Node};
-use fv_eval_lookup::Definitions;
+use crate::names::body_of;
+use fv_diagram::DiagramId;
+use fv_eval_lookup::{Definitions, parameters};
 use fv_eval_scopes::{Ruled, Value};
 use fv_parse::{Tree, TreeId};
 use fv_rules::{EvalRefusal, too_many_to_count};
@@ -43,7 +43,7 @@ impl Machine {
                 let tree = text.tree();
                 let slot = self.slot;
                 let count = parameters(tree, node);
-                let inner = self.on_slots(tree, node, bound, count, env)?;
+                let inner = self.on_slots(node, bound, count, env)?;
                 let slots = self.slot - slot;
                 self.continuations.push(Continuation::Drawn(continuation))?;
                 self.continuations
@@ -57,34 +57,28 @@ impl Machine {
         }
     }
 
-    // Binds the parameters that are left to new slots, in an environment.
+    // Binds the parameters of a node that are left to new slots, in an environment.
     fn on_slots(
         &mut self,
-        tree: &Tree,
         node: TreeId,
         bound: u64,
         count: u64,
         env: u64,
     ) -> Result<u64, AllocError>
-        requires node { node < size_of tree.now }
-        requires count { count ≡ length (parameters_in tree.now.tokens (tree_in tree.now node)) }
-        ensures slots { IfOk result (λ e. Slots tree.now self.old self.new (count - bound)) }
-        ensures env { IfOk result (λ e. (E : Env) → count ≡ length (parameters_in tree.now.tokens (tree_in tree.now node)) → 0 < count
-            → ShowsEnv (world tree.now self.old) env E
-            → ShowsEnv (world tree.now self.new) e (on_slots (drop bound (parameters_in tree.now.tokens (tree_in tree.now node))) self.old.slot E)) }
+        ensures slots { IfOk result (λ e. (p : Parsed) → Slots p self.old self.new (count - bound)) }
+        ensures env { IfOk result (λ e. (p : Parsed) (E : Env) → node < size_of p → count ≡ length (parameters_in p.tokens (tree_in p node))
+            → ShowsEnv (world p self.old) env E
+            → ShowsEnv (world p self.new) e (on_slots (drop bound (parameters_in p.tokens (tree_in p node))) self.old.slot E)) }
     {
-        let mut inner = env;
-        'binding: for i in bound..count {
-            let Some(name) = parameter(tree, node, i) else {
-                unreachable!();
-            };
-            let Some(next) = self.slot.checked_add(1) else {
-                return Err(too_many_to_count());
-            };
-            let slot = self.drawing.leaf(&Node::Slot(self.slot))?;
-            inner = self.scopes.bind(name, Value::Diagram(slot), inner)?;
-            self.slot = next;
+        let left = count.saturating_sub(bound);
+        if left == 0 {
+            return Ok(env);
         }
+        let Some(next) = self.slot.checked_add(left) else {
+            return Err(too_many_to_count());
+        };
+        let inner = self.scopes.bind_slots(node, bound, left, self.slot, env)?;
+        self.slot = next;
         Ok(inner)
     }
 

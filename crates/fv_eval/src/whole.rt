@@ -19,12 +19,11 @@ ghost use Rattle.fv_eval.specs.inner.Names.{defined_by};
 
 use crate::continuation::{Continuation, Focus, ForDiagram};
 use crate::machine::Machine;
-use crate::names::canonical;
 use fv_base::Word;
 use fv_base::limits::VISIT_LIMIT;
 use fv_diagram::{DiagramId, Diagrams};
 use fv_eval_drawing::Controls;
-use fv_eval_lookup::Definitions;
+use fv_eval_lookup::{Definitions, canonical};
 use fv_eval_scopes::Value;
 use fv_parse::{Tree, TreeId, TreeNode};
 use fv_rules::{EvalRefusal, TableCause, evaluates_to_runnables, steps_mean};

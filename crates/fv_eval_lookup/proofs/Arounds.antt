@@ -1,7 +1,8 @@
 -- The lists of definitions around environments, by the names that they have.
-use Rattle.std.proofs.Common.{◌≡◌, ◌⊎◌, inl, inr, ℕ, zero, suc, ◌+◌, ◌<◌, ◌≤◌, arith, List, [], ◌∷◌, ◌++◌, length, take, set, get_or, Option, Some, None}
+use Rattle.std.proofs.Common.{◌≡◌, ◌⊎◌, inl, inr, ℕ, zero, suc, ◌+◌, ◌-◌, ◌*◌, ◌/◌, ◌%◌, ◌<◌, ◌≤◌, arith, List, [], ◌∷◌, ◌++◌, length, take, set, get_or, Option, Some, None}
 use Rattle.std.proofs.Common.{refl, sym, ap, subst, ◌∙◌, append_assoc, Bool, true, false}
-use Rattle.std.specs.Prelude.{filter, nat_eq, slice_get}
+use Rattle.std.specs.Prelude.{filter, nat_eq, slice_get, IfSome}
+use Rattle.std.proofs.Math.Nat.{div-add-mod, div-lt_iff_lt-mul, mod-lt}
 use Rattle.std.proofs.lemmas.Bool.{cases_eq, cases_lt, eqb-true}
 use Rattle.std.proofs.lemmas.List.{get_or-set_other, get_or-set_same, get_or_append_left, get_or_push, length-set, length_push}
 use Rattle.std.proofs.lemmas.Option.{none-some, same_Some, slice_get_within, slice_get-get_or, slice_get_read, get_or_from_slice_get}
@@ -13,11 +14,13 @@ use Rattle.fv_eval_scopes.specs.declared.tries.Fork.{Fork}
 use Rattle.fv_eval_scopes.specs.declared.value.Value as code_value
 use Rattle.fv_eval_scopes.specs.declared.value.Scope as code_scope
 use Rattle.fv_eval_scopes.specs.declared.value.Scope.TheVariants as scope
-use Rattle.fv_eval_scopes.specs.Environments.{scope_in, outer_number}
+use Rattle.fv_eval_scopes.specs.declared.scopes.TheConstants.{STRIDE}
+use Rattle.fv_eval_scopes.specs.Environments.{first_number, next_number, nth_of, nth_scope, scope_in, outer_number}
 use Rattle.fv_eval_scopes.specs.Tries.{found, AreThere, IsGrown, IsWith}
-use Rattle.fv_eval_scopes.specs.Ways.{PassesBy, PassesTo, key_of}
+use Rattle.fv_eval_scopes.specs.Ways.{IsOther, PassesBy, PassesTo, key_of}
 use Rattle.fv_eval_scopes.proofs.lemmas.Forks.{found_on, there_on, grown_none, nothing_there}
 use Rattle.fv_eval_scopes.proofs.lemmas.Grown.{place_stays, last_place}
+use Rattle.fv_eval_scopes.proofs.lemmas.Numbered.{kept_at, scope_behind, scope_below, scope_stays}
 use Rattle.fv_eval_scopes.proofs.lemmas.Outward.{only, nearer_first, nearer_second}
 use Rattle.fv_eval_lookup.specs.declared.by_name.Defined.{Defined}
 use Rattle.fv_eval_lookup.specs.declared.around.TheConstants.{NAME_BITS}
@@ -35,11 +38,6 @@ was_made : (scopes : List code_scope.Scope) (env : ℕ) (s : code_scope.Scope) �
 was_made scopes zero s e = tt
 was_made scopes (suc i) s e = (s, e)
 
--- an environment with a scope was made
-pub scope_within : (scopes : List code_scope.Scope) (n : ℕ) (s : code_scope.Scope) → scope_in scopes (n + 1) ≡ Some s → n < length scopes
-scope_within scopes n s e =
-    let same : n + 1 ≡ suc n = omega arith in slice_get_within scopes n s (subst (λ k. scope_in scopes k ≡ Some s) same e)
-
 -- the outermost environment has no list around it
 pub root_outermost : (p : Parsed) (scopes : List code_scope.Scope) (forks : List Fork) → IsRoot p scopes forks 0 0
 root_outermost p scopes forks = record { made = tt; there = nothing_there forks NAME_BITS; leads = λ name n at h. go name n at h }
@@ -50,7 +48,7 @@ root_outermost p scopes forks = record { made = tt; there = nothing_there forks 
 
 -- after a scope that is passed only where it has nothing of a name
 nearest_on : (p : Parsed) (scopes : List code_scope.Scope) (name list env outer : ℕ) (s : code_scope.Scope) → scope_in scopes env ≡ Some s
-    → outer_number s ≡ outer → ((StopsAt name list (key_of s) → ⊥) → HasNothing p name env s) → IsNearest p scopes name outer list
+    → outer_number s ≡ outer → (IsOther (StopsAt name list) (key_of s) → HasNothing p name env s) → IsNearest p scopes name outer list
     → IsNearest p scopes name env list
 nearest_on p scopes name list env outer s is around none h zero at w = w
 nearest_on p scopes name list env outer s is around none h (suc n) at w =
@@ -60,7 +58,7 @@ nearest_on p scopes name list env outer s is around none h (suc n) at w =
       s,
       is,
       omega (arith, o.3, out, around),
-      none (λ q. o.4 (subst (λ x. StopsAt name list (key_of x)) (sym same) q)),
+      none (subst (λ x. IsOther (StopsAt name list) (key_of x)) same o.4),
       subst (λ e. SkipsBy p scopes name n e at) (sym around)
           (h n at (subst (λ e. PassesBy scopes (StopsAt name list) n e at) out w.2)),
     )
@@ -105,7 +103,8 @@ root_listed p scopes forks env id outer around root is h nested = record {
     here name e zero at w = w
     here name e (suc n) at w =
         let o = w.1 in
-        let same : o.0 ≡ s = same_Some o.0 s (sym o.1 ∙ is) in absurd (o.4 (inr (ap key_of same ∙ sym e)))
+        let same : o.0 ≡ s = same_Some o.0 s (sym o.1 ∙ is) in
+        let other : StopsAt name (to name) id → ⊥ = subst (λ x. IsOther (StopsAt name (to name)) (key_of x)) same o.4 in absurd (other (inr (sym e)))
 
     go : (name : ℕ) → ((to name ≡ id) ⊎ (HasNone p id name × (to name ≡ found forks NAME_BITS around name))) → IsNearest p scopes name env (to name)
     go name (inl e) = here name e
@@ -143,38 +142,40 @@ nested_all_on p old new nested g h i x e = nested_on p old new x.list x.around x
 pub around_on : (p : Parsed) (scopes : List code_scope.Scope) (old new : Around) → IsGrown old.tries new.tries → new.roots.items ≡ old.roots.items
     → AreNested p new.tries new.nested.items → AreAround p scopes old → AreAround p scopes new
 around_on p scopes old new g same nested h = record {
-  roots = λ i r e. root_on p scopes old.tries new.tries (suc i) r g (h.roots i r (ap (λ rs. slice_get rs i) (sym same) ∙ e));
+  roots = λ i r k l e. root_on p scopes old.tries new.tries (first_number i + k) r g (h.roots i r k l (ap (λ rs. slice_get rs i) (sym same) ∙ e));
   nested = nested;
 }
 
 -- ---- one environment more
 
 pub root_more : (p : Parsed) (scopes : List code_scope.Scope) (old new : Around) (root : ℕ) → new.tries ≡ old.tries → new.nested.items ≡ old.nested.items
-    → new.roots.items ≡ old.roots.items ++ root ∷ [] → IsRoot p scopes old.tries (length old.roots.items + 1) root → AreAround p scopes old
+    → new.roots.items ≡ old.roots.items ++ root ∷ []
+    → ((k : ℕ) → k < STRIDE → IsRoot p scopes old.tries (first_number (length old.roots.items) + k) root) → AreAround p scopes old
     → AreAround p scopes new
 root_more p scopes old new root tries nested pushed here h = record {
-  roots = λ i r e. subst (λ fs. IsRoot p scopes fs (suc i) r) (sym tries) (go i r (ap (λ rs. slice_get rs i) (sym pushed) ∙ e));
+  roots = λ i r k b e.
+      subst (λ fs. IsRoot p scopes fs (first_number i + k) r) (sym tries) (go i r k b (ap (λ rs. slice_get rs i) (sym pushed) ∙ e));
   nested = subst (λ fs. AreNested p fs new.nested.items) (sym tries) (subst (AreNested p old.tries) (sym nested) h.nested);
 }
   where
     roots : List ℕ
     roots = old.roots.items
 
-    go : (i r : ℕ) → slice_get (roots ++ root ∷ []) i ≡ Some r → IsRoot p scopes old.tries (suc i) r
-    go i r e = at (cases_lt i (length roots))
+    go : (i r k : ℕ) → k < STRIDE → slice_get (roots ++ root ∷ []) i ≡ Some r → IsRoot p scopes old.tries (first_number i + k) r
+    go i r k b e = at (cases_lt i (length roots))
       where
-        at : ((i < length roots) ⊎ (length roots ≤ i)) → IsRoot p scopes old.tries (suc i) r
+        at : ((i < length roots) ⊎ (length roots ≤ i)) → IsRoot p scopes old.tries (first_number i + k) r
         at (inl l) =
             let is = slice_get-get_or roots i root l in
             let same : get_or roots i root ≡ r = same_Some (get_or roots i root) r (sym (place_stays roots root i (get_or roots i root) is) ∙ e) in
-            h.roots i r (is ∙ ap Some same)
+            h.roots i r k b (is ∙ ap Some same)
         at (inr l) =
             let within = slice_get_within (roots ++ root ∷ []) i r e in
             let place : i ≡ length roots = omega (arith, l, within, length_push roots root) in
             let same : root ≡ r =
             same_Some root r (sym (last_place roots root) ∙ subst (λ n. slice_get (roots ++ root ∷ []) n ≡ Some r) place e) in
-            let number : length roots + 1 ≡ suc i = omega (arith, place) in
-            subst (λ n. IsRoot p scopes old.tries n r) number (subst (IsRoot p scopes old.tries (length roots + 1)) same here)
+            subst (λ n. IsRoot p scopes old.tries (first_number n + k) r) (sym place)
+            (subst (IsRoot p scopes old.tries (first_number (length roots) + k)) same (here k b))
 
 -- ---- what is remembered of lists
 
@@ -276,33 +277,88 @@ names_nested p old new list around root ds none h a = record {
     go name (inl e) = inl e
     go name (inr e) = inr (none name e.0, e.1 ∙ sym (found_on old new NAME_BITS around name h.grown a))
 
+-- ---- the environments of one scope
+
+-- what is no parameter is one alone
+pub nth_bound : (k before n : ℕ) (u : code_value.Value) (o : ℕ) → nth_scope k before (scope.Bound n u o) ≡ scope.Bound n u o
+nth_bound zero before n u o = refl
+nth_bound (suc k) before n u o = refl
+
+pub nth_definitions : (k before id o : ℕ) → nth_scope k before (scope.Definitions id o) ≡ scope.Definitions id o
+nth_definitions zero before id o = refl
+nth_definitions (suc k) before id o = refl
+
+-- no way passes what is bound to slots, so that each tree is one of its environments
+pub root_slotted : (p : Parsed) (scopes : List code_scope.Scope) (forks : List Fork) (k before env f i slot o root : ℕ)
+    → scope_in scopes env ≡ Some (nth_scope k before (scope.Slots f i slot o)) → AreThere forks NAME_BITS root → IsRoot p scopes forks env root
+root_slotted p scopes forks k before env f i slot o root is there = record {
+  made = was_made scopes env (nth_scope k before (scope.Slots f i slot o)) is;
+  there = there;
+  leads = λ name n at w. go name n at w;
+}
+  where
+    no_key : (k : ℕ) → key_of (nth_scope k before (scope.Slots f i slot o)) ≡ None
+    no_key zero = refl
+    no_key (suc k) = refl
+
+    go : (name n at : ℕ) → PassesBy scopes (StopsAt name (found forks NAME_BITS root name)) n env at → SkipsBy p scopes name n env at
+    go name zero at w = w
+    go name (suc n) at w =
+        let o = w.1 in
+        let same = same_Some _ _ (sym o.1 ∙ is) in
+        absurd (subst (IsOther (StopsAt name (found forks NAME_BITS root name))) (ap key_of same ∙ no_key k) o.4)
+
+-- a tree for each environment of the scope that is kept at a place
+pub root_of_all : (p : Parsed) (scopes : List code_scope.Scope) (forks : List Fork) (n root : ℕ) (s : code_scope.Scope) → slice_get scopes n ≡ Some s
+    → ((k before env : ℕ) → scope_in scopes env ≡ Some (nth_scope k before s) → IsRoot p scopes forks env root)
+    → (k : ℕ) → k < STRIDE → IsRoot p scopes forks (first_number n + k) root
+root_of_all p scopes forks n root s at each k l = each k (n * STRIDE + k) (first_number n + k) (scope_behind scopes n k s l at)
+
+-- the root that is kept for an environment
+pub root_read : (p : Parsed) (scopes : List code_scope.Scope) (a : Around) (env : ℕ) (o : Option ℕ) → (env ≡ 0 → ⊥)
+    → o ≡ slice_get a.roots.items ((env - 1) / STRIDE) → AreAround p scopes a → IfSome o (IsRoot p scopes a.tries env)
+root_read p scopes a env None some e h = tt
+root_read p scopes a env (Some r) some e h =
+    let n = env - 1 in
+    let positive : zero < STRIDE = omega arith in
+    let whole : STRIDE * (n / STRIDE) + n % STRIDE ≡ n = div-add-mod n STRIDE in
+    let number : first_number (n / STRIDE) + n % STRIDE ≡ env = omega (arith, whole, some) in
+    subst (λ j. IsRoot p scopes a.tries j r) number (h.roots (n / STRIDE) r (n % STRIDE) (mod-lt n positive) (sym e))
+
+-- a place within the numbers of a list
+place_within : (n i : ℕ) → i < n * STRIDE → i / STRIDE < n
+place_within n i l = let some : zero < STRIDE = omega arith in (div-lt_iff_lt-mul some).1 l
+
 -- ---- scopes that have grown
 
 module _ (old new : List code_scope.Scope) (same : (i : ℕ) (s : code_scope.Scope) → slice_get old i ≡ Some s → slice_get new i ≡ Some s) where
   -- a scope of an environment that was made before was there before
-  was_there : (env : ℕ) (s : code_scope.Scope) → env ≤ length old → scope_in new env ≡ Some s → scope_in old env ≡ Some s
+  was_there : (env : ℕ) (s : code_scope.Scope) → env < next_number old → scope_in new env ≡ Some s → scope_in old env ≡ Some s
   was_there zero s l e = absurd (none-some s e)
   was_there (suc i) s l e =
-      let here = slice_get-get_or old i s (omega (arith, l)) in
-      here ∙ ap Some (same_Some (get_or old i s) s (sym (same i (get_or old i s) here) ∙ e))
+      let k = kept_at new i s e in
+      let n = i / STRIDE in
+      let here = slice_get-get_or old n s (place_within (length old) i (omega (arith, l))) in
+      let t : get_or old n s ≡ k.kept = same_Some (get_or old n s) k.kept (sym (same n (get_or old n s) here) ∙ k.at) in
+      ap (nth_of (i % STRIDE) i) (here ∙ ap Some t) ∙ ap Some k.is
 
-  passed_before : (Keys : ℕ → Type 0) (n env at : ℕ) → env ≤ length old → PassesBy new Keys n env at → PassesBy old Keys n env at
+  passed_before : (Keys : ℕ → Type 0) (n env at : ℕ) → env < next_number old → PassesBy new Keys n env at → PassesBy old Keys n env at
   passed_before Keys zero env at l h = h
   passed_before Keys (suc n) env at l h =
       let o = h.1 in
       (h.0, (o.0, was_there env o.0 l o.1, o.2, o.3, o.4), passed_before Keys n h.0 at (omega (arith, l, o.3)) h.2)
 
-  made_within : (env : ℕ) → WasMade old env → env ≤ length old
+  made_within : (env : ℕ) → WasMade old env → env < next_number old
   made_within zero h = omega arith
-  made_within (suc i) h = omega (arith, slice_get_within old i h.0 h.1)
+  made_within (suc i) h = scope_below old (suc i) h.0 h.1
 
   made_still : (env : ℕ) → WasMade old env → WasMade new env
   made_still zero h = tt
-  made_still (suc i) h = (h.0, same i h.0 h.1)
+  made_still (suc i) h = (h.0, scope_stays old new same (suc i) h.0 h.1)
 
   pub around_grows : (p : Parsed) (a : Around) → ((name n env at : ℕ) → SkipsBy p old name n env at → SkipsBy p new name n env at)
       → AreAround p old a → AreAround p new a
-  around_grows p a stay h = record { roots = λ i r e. go (suc i) r (h.roots i r e); nested = h.nested }
+  around_grows p a stay h = record { roots = λ i r k l e. go (first_number i + k) r (h.roots i r k l e); nested = h.nested }
     where
       go : (env r : ℕ) → IsRoot p old a.tries env r → IsRoot p new a.tries env r
       go env r k = record {

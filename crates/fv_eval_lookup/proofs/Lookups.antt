@@ -1,5 +1,5 @@
 -- The steps of a look-up.
-use Rattle.std.proofs.Common.{◌≡◌, ℕ, zero, suc, ◌<◌, ◌≤◌, arith, Bool, true, false, List, [], ◌∷◌, length, map, get_or, cond, Option, Some, None, refl}
+use Rattle.std.proofs.Common.{◌≡◌, inl, inr, ℕ, zero, suc, ◌<◌, ◌≤◌, arith, Bool, true, false, List, [], ◌∷◌, length, map, get_or, cond, Option, Some, None, refl}
 use Rattle.std.proofs.Common.{sym, ap, subst, ◌∙◌, All}
 use Rattle.std.specs.Prelude.{filter, slice_get}
 use Rattle.std.proofs.lemmas.List.{length-map}
@@ -8,7 +8,7 @@ use Rattle.std.specs.List.{list_all}
 use Rattle.std.specs.Str.{bytes_eq}
 use Rattle.std.proofs.lemmas.Bool.{and_parts, false≢true}
 use Rattle.std.proofs.lemmas.List.Elements.{filter_passes}
-use Rattle.std.proofs.lemmas.Option.{none-some, same_Some}
+use Rattle.std.proofs.lemmas.Option.{none-some, same_Some, slice_get_within}
 use Rattle.std.proofs.lemmas.Slice.Eq.{bytes_eq-Decides}
 use Rattle.fv_parse.specs.Token.{Lexed, texts_of}
 use Rattle.fv_parse_grammar.specs.headline.Tree.{Tree, items, start_of}
@@ -29,13 +29,15 @@ use Rattle.fv_eval_scopes.specs.declared.value.Meaning as code_meaning
 use Rattle.fv_eval_scopes.specs.declared.value.Meaning.TheVariants as meaning
 use Rattle.fv_eval_scopes.specs.Environments.{scope_in, outer_number}
 use Rattle.fv_rules.specs.headline.Values.{Name, Rule, Env, Outermost, Bound, Scope, Nothing, Cases, Definition, Meaning, rule_of, is_of, names_of, with_name}
-use Rattle.fv_rules.specs.headline.Values.{of_one, definition_of, or_else, lookup}
+use Rattle.fv_rules.specs.headline.Values.{of_one, definition_of, or_else, lookup, IsValue, Value, Flat}
+use Rattle.fv_diagram.specs.headline.Diagram.{Slot}
 use Rattle.fv_eval_scopes.specs.Shows.{World, IsNamed, IsFunction, IsInside, given_names, parameters_in, body_in, name_in, rules_in, begins_in, ShowsEnv}
-use Rattle.fv_eval_scopes.specs.Shows.{ShowsTaken, ShowsMeaning}
+use Rattle.fv_eval_scopes.specs.Shows.{ShowsTaken, ShowsMeaning, ShowsValue}
 use Rattle.fv_eval_scopes.specs.declared.value.Ruled.{Ruled}
 use Rattle.fv_eval_lookup.proofs.RuleNodes.{IsNoFunction, AreOfName}
 use Rattle.fv_eval_scopes.specs.Outward.{HasNothing, outer}
-use Rattle.fv_eval_lookup.specs.inner.Lookup.{SaysOrPasses, IsMade, is_name, are_names}
+use Rattle.fv_eval_lookup.specs.inner.Lookup.{SaysOrPasses, IsMade, TellsParameter, is_name, are_names}
+use Rattle.fv_eval_lookup.specs.Parameters.{ShowsName}
 
 -- ---- what definitions make of a name
 
@@ -195,8 +197,10 @@ pub definitions_say : (w : World) (id o env : ℕ) (found : Option code_meaning.
     → SaysOrPasses w found (lookup w.tree.tokens E x) (lookup w.tree.tokens (outer E) x)
 definitions_say w id o zero found x E h m f = absurd (none-some _ h)
 definitions_say w id o (suc i) found x Outermost h m f = let z : suc i ≡ 0 = m in absurd (omega (arith, z))
-definitions_say w id o (suc i) found x (Bound y v E) h m f =
-    let q : scope.Bound m.0 m.1 m.2 ≡ scope.Definitions id o = same_Some _ _ (sym m.3 ∙ h) in cc
+definitions_say w id o (suc i) found x (Bound y v E) h (j, l, k, inl m) f =
+    let q : scope.Bound m.0 m.1 j ≡ scope.Definitions id o = same_Some _ _ (sym m.2 ∙ h) in cc
+definitions_say w id o (suc i) found x (Bound y v E) h (j, l, k, inr m) f =
+    let q : scope.Slots m.node m.parameter m.slot j ≡ scope.Definitions id o = same_Some _ _ (sym m.kept ∙ h) in cc
 definitions_say w id o (suc i) found x (Scope ds E) h m f =
     let q : scope.Definitions m.0 m.1 ≡ scope.Definitions id o = same_Some _ _ (sym m.2 ∙ h) in
     let a : m.0 ≡ id = cc in
@@ -211,15 +215,18 @@ pub outer_shows : (w : World) (s : code_scope.Scope) (env : ℕ) (E : Env) → s
     → (outer_number s < env) × ShowsEnv w (outer_number s) (outer E)
 outer_shows w s zero E h m = absurd (none-some _ h)
 outer_shows w s (suc i) Outermost h m = let z : suc i ≡ 0 = m in absurd (omega (arith, z))
-outer_shows w s (suc i) (Bound y v E) h m =
-    let q : m.2 ≡ outer_number s = ap outer_number (same_Some _ _ (sym m.3 ∙ h)) in (omega (arith, m.4, q), subst (λ z. ShowsEnv w z E) q m.7)
+outer_shows w s (suc i) (Bound y v E) h (j, l, k, inl m) =
+    let q : j ≡ outer_number s = ap outer_number (same_Some _ _ (sym m.2 ∙ h)) in (omega (arith, l, q), subst (λ z. ShowsEnv w z E) q k)
+outer_shows w s (suc i) (Bound y v E) h (j, l, k, inr m) =
+    let q : j ≡ outer_number s = ap outer_number (same_Some _ _ (sym m.kept ∙ h)) in (omega (arith, l, q), subst (λ z. ShowsEnv w z E) q k)
 outer_shows w s (suc i) (Scope ds E) h m =
     let q : m.1 ≡ outer_number s = ap outer_number (same_Some _ _ (sym m.2 ∙ h)) in (omega (arith, m.3, q), subst (λ z. ShowsEnv w z E) q m.5)
 
 -- where there is no scope, the environment is the outermost one
 pub no_scope : (w : World) (env : ℕ) (E : Env) → scope_in w.scopes env ≡ None → ShowsEnv w env E → E ≡ Outermost
 no_scope w env Outermost h m = refl
-no_scope w env (Bound y v E) h m = absurd (none-some _ (sym h ∙ m.3))
+no_scope w env (Bound y v E) h (j, l, k, inl m) = absurd (none-some _ (sym h ∙ m.2))
+no_scope w env (Bound y v E) h (j, l, k, inr m) = absurd (none-some _ (sym h ∙ m.kept))
 no_scope w env (Scope ds E) h m = absurd (none-some _ (sym h ∙ m.2))
 
 -- ---- the loop: what the name stands for is what it stands for from a further environment
@@ -312,6 +319,11 @@ one_number : (l : Lexed) (n m : ℕ) (x : Name) → (text_of l n ≡ x) × (firs
 one_number l n m x a b =
     sym a.1 ∙ ap (first_with (texts_of l.tokens)) (a.0 ∙ sym b.0) ∙ b.1
 
+-- a test of names that fails passes them on
+passes : (b : Bool) (p q : Meaning) → (b ≡ true → ⊥) → cond b p q ≡ q
+passes true p q h = absurd (h refl)
+passes false p q h = refl
+
 -- a scope that binds another name
 other_name : (w : World) (n name o at : ℕ) (u : code_value.Value) (x : Name) (F : Env) → scope_in w.scopes at ≡ Some (scope.Bound n u o)
     → (n ≡ name → ⊥) → IsNamed w name x → ShowsEnv w at F → lookup w.tree.tokens F x ≡ lookup w.tree.tokens (outer F) x
@@ -319,14 +331,110 @@ other_name w n name o zero u x F h other named m = absurd (none-some _ h)
 other_name w n name o (suc i) u x Outermost h other named m = refl
 other_name w n name o (suc i) u x (Scope ds E) h other named m =
     let q : scope.Definitions m.0 m.1 ≡ scope.Bound n u o = same_Some _ _ (sym m.2 ∙ h) in absurd (cc)
-other_name w n name o (suc i) u x (Bound y v E) h other named m =
-    let q : scope.Bound m.0 m.1 m.2 ≡ scope.Bound n u o = same_Some _ _ (sym m.3 ∙ h) in
+other_name w n name o (suc i) u x (Bound y v E) h other named (j, l, k, inl m) =
+    let q : scope.Bound m.0 m.1 j ≡ scope.Bound n u o = same_Some _ _ (sym m.2 ∙ h) in
     let a : m.0 ≡ n = cc in
-    passes (bytes_eq y x) _ _ (λ t. other (sym a ∙ one_number w.tree.tokens m.0 name x (m.5.0 ∙ (bytes_eq-Decides y x).0 t, m.5.1) named))
+    passes (bytes_eq y x) _ _ (λ t. other (sym a ∙ one_number w.tree.tokens m.0 name x (m.3.0 ∙ (bytes_eq-Decides y x).0 t, m.3.1) named))
+other_name w n name o (suc i) u x (Bound y v E) h other named (j, l, k, inr m) =
+    let q : scope.Slots m.node m.parameter m.slot j ≡ scope.Bound n u o = same_Some _ _ (sym m.kept ∙ h) in absurd (cc)
+
+-- a scope that binds the name
+pub bound_says : (w : World) (n o env : ℕ) (u : code_value.Value) (x : Name) (E : Env) → scope_in w.scopes env ≡ Some (scope.Bound n u o)
+    → IsNamed w n x → ShowsEnv w env E → ShowsMeaning w (meaning.Known u) (lookup w.tree.tokens E x)
+bound_says w n o env u x Outermost h named m =
+    absurd (none-some _ (subst (λ i. scope_in w.scopes i ≡ Some (scope.Bound n u o)) (let z : env ≡ 0 = m in z) h))
+bound_says w n o env u x (Scope ds E) h named m =
+    let q : scope.Definitions m.0 m.1 ≡ scope.Bound n u o = same_Some _ _ (sym m.2 ∙ h) in absurd (cc)
+bound_says w n o env u x (Bound y v E) h named (j, l, k, inl m) =
+    let q : scope.Bound m.0 m.1 j ≡ scope.Bound n u o = same_Some _ _ (sym m.2 ∙ h) in
+    let a : m.0 ≡ n = cc in
+    let b : m.1 ≡ u = cc in
+    let same : y ≡ x = sym m.3.0 ∙ ap (text_of w.tree.tokens) a ∙ named.0 in
+    subst (λ t. ShowsMeaning w (meaning.Known u) (cond t (IsValue v) (lookup w.tree.tokens E x))) (sym ((bytes_eq-Decides y x).1 same))
+    (subst (λ z. ShowsValue w z v) b m.4)
+bound_says w n o env u x (Bound y v E) h named (j, l, k, inr m) =
+    let q : scope.Slots m.node m.parameter m.slot j ≡ scope.Bound n u o = same_Some _ _ (sym m.kept ∙ h) in absurd (cc)
+
+-- ---- a scope that binds a parameter to a slot
+
+-- the environment begins with a parameter that is bound to this slot
+record IsOnSlot (p : Parsed) (f k slot : ℕ) (E : Env) : Type 0 where
+  pub name : Name
+  pub value : Value
+  pub around : Env
+  pub is : E ≡ Bound name value around
+  pub inside : f < size_of p
+  pub named : slice_get (parameters_in p.tokens (tree_in p f)) k ≡ Some name
+  pub slot_is : value ≡ Flat (Slot slot)
+
+on_slot : (w : World) (f k slot o env : ℕ) (E : Env) → scope_in w.scopes env ≡ Some (scope.Slots f k slot o) → ShowsEnv w env E
+    → IsOnSlot w.tree f k slot E
+on_slot w f k slot o env Outermost h m =
+    absurd (none-some _ (subst (λ i. scope_in w.scopes i ≡ Some (scope.Slots f k slot o)) (let z : env ≡ 0 = m in z) h))
+on_slot w f k slot o env (Scope ds E) h m =
+    let q : scope.Definitions m.0 m.1 ≡ scope.Slots f k slot o = same_Some _ _ (sym m.2 ∙ h) in absurd (cc)
+on_slot w f k slot o env (Bound y v E) h (j, l, s, inl m) =
+    let q : scope.Bound m.0 m.1 j ≡ scope.Slots f k slot o = same_Some _ _ (sym m.2 ∙ h) in absurd (cc)
+on_slot w f k slot o env (Bound y v E) h (j, l, s, inr m) =
+    let q : scope.Slots m.node m.parameter m.slot j ≡ scope.Slots f k slot o = same_Some _ _ (sym m.kept ∙ h) in
+    let a : m.node ≡ f = cc in
+    let b : m.parameter ≡ k = cc in
+    let c : m.slot ≡ slot = cc in
+    record {
+      name = y;
+      value = v;
+      around = E;
+      is = refl;
+      inside = subst (λ n. n < size_of w.tree) a m.inside;
+      named = subst (λ n. slice_get (parameters_in w.tree.tokens (tree_in w.tree n)) k ≡ Some y) a
+          (subst (λ n. slice_get (parameters_in w.tree.tokens (tree_in w.tree m.node)) n ≡ Some y) b m.name);
+      slot_is = m.value ∙ ap (λ n. Flat (Slot n)) c;
+    }
+
+-- it has the name
+pub slot_says : (w : World) (f k slot o env name : ℕ) (x : Name) (E : Env) → scope_in w.scopes env ≡ Some (scope.Slots f k slot o)
+    → TellsParameter w.tree f k name true → IsNamed w name x → ShowsEnv w env E → ShowsMeaning w (meaning.Slot slot) (lookup w.tree.tokens E x)
+slot_says w f k slot o env name x E h tells named shown =
+    let l = w.tree.tokens in
+    let s = on_slot w f k slot o env E h shown in
+    let same : s.name ≡ x = sym (tells s.name s.inside s.named named.1) ∙ named.0 in
+    subst (λ F. ShowsMeaning w (meaning.Slot slot) (lookup l F x)) (sym s.is)
+    (subst (λ t. ShowsMeaning w (meaning.Slot slot) (cond t (IsValue s.value) (lookup l s.around x))) (sym ((bytes_eq-Decides s.name x).1 same)) s.slot_is)
+
+-- it has another one
+pub slot_passes : (w : World) (f k slot o env name : ℕ) (x : Name) (E : Env) → scope_in w.scopes env ≡ Some (scope.Slots f k slot o)
+    → TellsParameter w.tree f k name false → IsNamed w name x → ShowsEnv w env E
+    → lookup w.tree.tokens E x ≡ lookup w.tree.tokens (outer E) x
+slot_passes w f k slot o env name x E h tells named shown =
+    let l = w.tree.tokens in
+    let s = on_slot w f k slot o env E h shown in
+    let apart = tells s.name s.inside s.named named.1 in
+    subst (λ F. lookup l F x ≡ lookup l (outer F) x) (sym s.is)
+    (passes (bytes_eq s.name x) _ _ (λ t. apart (named.0 ∙ sym ((bytes_eq-Decides s.name x).0 t))))
+
+-- whether it has the name, by the number of its own
+pub parameter_tells : (p : Parsed) (f k name n : ℕ)
+    → (0 < length (parameters_in p.tokens (tree_in p f)) → ShowsName p.tokens (Some n) (slice_get (parameters_in p.tokens (tree_in p f)) k))
+    → (n ≡ name → TellsParameter p f k name true) × ((n ≡ name → ⊥) → TellsParameter p f k name false)
+parameter_tells p f k name n shows = (
+  λ e x l at first. let s = named x at in ap (text_of p.tokens) (sym e) ∙ s.0,
+  λ apart x l at first text. let s = named x at in apart (one_number p.tokens n name x s (text, first)),
+)
   where
-    passes : (b : Bool) (p q : Meaning) → (b ≡ true → ⊥) → cond b p q ≡ q
-    passes true p q h = absurd (h refl)
-    passes false p q h = refl
+    named : (x : Name) → slice_get (parameters_in p.tokens (tree_in p f)) k ≡ Some x → (text_of p.tokens n ≡ x) × (first_named p.tokens n ≡ n)
+    named x at =
+        let names = parameters_in p.tokens (tree_in p f) in
+        let some : 0 < length names = omega (arith, slice_get_within names k x at) in
+        subst (ShowsName p.tokens (Some n)) at (shows some)
+
+-- where there are not so many, none has it
+pub no_parameter_tells : (p : Parsed) (f k name : ℕ)
+    → (0 < length (parameters_in p.tokens (tree_in p f)) → ShowsName p.tokens None (slice_get (parameters_in p.tokens (tree_in p f)) k))
+    → TellsParameter p f k name false
+no_parameter_tells p f k name shows x l at first =
+    let names = parameters_in p.tokens (tree_in p f) in
+    let some : 0 < length names = omega (arith, slice_get_within names k x at) in
+    absurd (subst (ShowsName p.tokens None) at (shows some))
 
 -- a scope that binds another name has nothing of this one
 pub another_bound : (p : Parsed) (name env n o : ℕ) (u : code_value.Value) → (n ≡ name → ⊥) → HasNothing p name env (scope.Bound n u o)

@@ -1,11 +1,13 @@
 -- The lists of definitions around environments, by the names that they have (this project's profile).
-use Rattle.std.specs.Prelude.{◌≡◌, ◌⊎◌, ℕ, zero, suc, ◌<◌, List, [], Option, Some, filter, slice_get}
+use Rattle.std.specs.Prelude.{◌≡◌, ◌⊎◌, ℕ, zero, suc, ◌+◌, ◌<◌, List, [], Option, Some, filter, slice_get}
 use Rattle.fv_parse_grammar.specs.headline.Tree.{items}
 use Rattle.fv_parse.specs.headline.Trees.{text_of}
 use Rattle.fv_parse.specs.Trees.{Parsed, size_of, tree_in, first_named}
 use Rattle.fv_rules.specs.headline.Values.{is_of}
 use Rattle.fv_eval_scopes.specs.declared.tries.Fork.{Fork}
 use Rattle.fv_eval_scopes.specs.declared.value.Scope as code_scope
+use Rattle.fv_eval_scopes.specs.declared.scopes.TheConstants.{STRIDE}
+use Rattle.fv_eval_scopes.specs.Environments.{first_number, scope_in}
 use Rattle.fv_eval_scopes.specs.Tries.{found, AreThere}
 use Rattle.fv_eval_scopes.specs.Ways.{PassesBy}
 use Rattle.fv_eval_lookup.specs.declared.around.TheConstants.{NAME_BITS}
@@ -30,7 +32,7 @@ IsNearest p scopes name env list = (n at : ℕ) → PassesBy scopes (StopsAt nam
 -- the environment was made
 abbrev pub WasMade : List code_scope.Scope → ℕ → Type 0
 WasMade scopes zero = Unit {0}
-WasMade scopes (suc i) = (s : code_scope.Scope) × (slice_get scopes i ≡ Some s)
+WasMade scopes (suc i) = (s : code_scope.Scope) × (scope_in scopes (suc i) ≡ Some s)
 
 -- In the trie with this root, each name leads to the nearest list around an environment that has it.
 pub record IsRoot (p : Parsed) (scopes : List code_scope.Scope) (forks : List Fork) (env root : ℕ) : Type 0 where
@@ -52,5 +54,5 @@ AreNested p forks nested = (i : ℕ) (x : Nested) → slice_get nested i ≡ Som
 
 -- What is known of the lists around environments is true of a text and these scopes.
 pub record AreAround (p : Parsed) (scopes : List code_scope.Scope) (a : Around) : Type 0 where
-  pub roots : (i r : ℕ) → slice_get a.roots.items i ≡ Some r → IsRoot p scopes a.tries (suc i) r
+  pub roots : (i r k : ℕ) → k < STRIDE → slice_get a.roots.items i ≡ Some r → IsRoot p scopes a.tries (first_number i + k) r
   pub nested : AreNested p a.tries a.nested.items

@@ -4,5 +4,6 @@ pub mod Chosen
 pub mod inner
 pub mod Indexes
 pub mod Leaving
+pub mod Parameters
 pub mod Positions
 pub mod Shortcuts

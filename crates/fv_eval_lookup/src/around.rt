@@ -4,13 +4,13 @@ ghost use Rattle.std.specs.Prelude.{ℕ, ◌≡◌, List, IfOk, IfSome, Some, sl
 ghost use Rattle.fv_parse.specs.Trees.{Parsed};
 ghost use Rattle.fv_eval_scopes.specs.declared.tries.Fork.{Fork};
 ghost use Rattle.fv_eval_scopes.specs.declared.value.Scope.{Scope as AScope};
-ghost use Rattle.fv_eval_scopes.specs.Environments.{scope_in};
+ghost use Rattle.fv_eval_scopes.specs.Environments.{nth_scope, scope_in};
 ghost use Rattle.fv_eval_scopes.specs.Tries.{AreThere, IsGrown};
 ghost use Rattle.fv_eval_lookup.specs.declared.around.TheConstants.{NAME_BITS};
 ghost use Rattle.fv_eval_lookup.specs.Around.{AreAround, AreNested, IsNearest, IsNested, IsRoot};
 
 use crate::lookup::Definitions;
-use fv_eval_scopes::{Scope, Scopes, Tries, outer_of};
+use fv_eval_scopes::{STRIDE, Scope, Scopes, Tries, outer_of};
 use fv_parse::TreeId;
 use std::alloc::{AllocError, Global};
 
@@ -30,7 +30,7 @@ pub(crate) struct Nested {
 #[derive(Drop)]
 pub(crate) struct Around {
     tries: Tries,
-    /// By environment, from the first one on: the root of its trie. That of the outermost one, which has no list around it, is 0.
+    /// By kept scope: the root of the trie of its environments. That of the outermost one, which has no list around it, is 0.
     roots: Vec<u64>,
     /// By list: how it was nested the last time.
     nested: Vec<Option<Nested>>,
@@ -55,7 +55,14 @@ impl Around {
         if env == 0 {
             return Some(0);
         }
-        self.roots.get((env - 1) as usize).copied()
+        self.root_at((env - 1) / STRIDE)
+    }
+
+    // One of the roots.
+    fn root_at(&self, place: u64) -> Option<u64>
+        ensures { result ≡ slice_get self.now.roots.items place }
+    {
+        self.roots.get(place as usize).copied()
     }
 
     /// The nearest list around an environment that has a definition of a name, or 0, where this is known.
@@ -70,7 +77,7 @@ impl Around {
     pub(crate) fn follow(&mut self, definitions: &Definitions, scopes: &Scopes)
         ensures { AreAround definitions.now scopes.now.scopes self.old → AreAround definitions.now scopes.now.scopes self.new }
     {
-        'following: while let Some(scope) = scopes.scope(self.roots.len() as u64 + 1) {
+        'following: while let Some(scope) = scopes.kept(self.roots.len() as u64) {
             let Some(root) = self.root_of(definitions, &scope) else {
                 return;
             };
@@ -81,16 +88,18 @@ impl Around {
         }
     }
 
-    // The root of the trie of an environment with this innermost scope.
+    // The root of the trie of environments with this innermost scope, or with a parameter after it.
     fn root_of(&mut self, definitions: &Definitions, scope: &Scope) -> Option<u64>
         ensures same { self.new.roots ≡ self.old.roots }
         ensures kept { (scopes : List AScope) → AreAround definitions.now scopes self.old → AreAround definitions.now scopes self.new }
-        ensures root { IfSome result (λ r. (scopes : List AScope) (env : ℕ) → AreAround definitions.now scopes self.old
-            → scope_in scopes env ≡ Some scope.now → IsRoot definitions.now scopes self.new.tries env r) }
+        ensures root { IfSome result (λ r. (scopes : List AScope) (k before env : ℕ) → AreAround definitions.now scopes self.old
+            → scope_in scopes env ≡ Some (nth_scope k before scope.now) → IsRoot definitions.now scopes self.new.tries env r) }
     {
         let around = self.root(outer_of(scope))?;
         match scope {
             Scope::Bound { .. } => Some(around),
+            // It is never passed at once, so that each root will do.
+            Scope::Slots { .. } => Some(around),
             Scope::Definitions { list, .. } => match self.nest(definitions, *list, around) {
                 Ok(root) => Some(root),
                 Err(_) => None,

@@ -14,11 +14,12 @@ ghost use Rattle.fv_eval_scopes.specs.Shows.{World, IsInside, IsNamed, ShowsEnv,
 ghost use Rattle.fv_eval_lookup.specs.Leaving.{IsIndex};
 ghost use Rattle.fv_eval_lookup.specs.Shortcuts.{AreShortcuts};
 ghost use Rattle.fv_eval_scopes.specs.Outward.{SkipsTo, outer};
-ghost use Rattle.fv_eval_lookup.specs.inner.Lookup.{SaysOrPasses, IsMade, is_name, are_names};
+ghost use Rattle.fv_eval_lookup.specs.inner.Lookup.{SaysOrPasses, IsMade, TellsParameter, is_name, are_names};
 
 use crate::around::Around;
 use crate::by_name::{ByName, Defined, by_name};
 use crate::index::RuleIndex;
+use crate::parameter_names::parameter;
 use crate::shortcuts::Shortcuts;
 use fv_eval_scopes::{Meaning, Ruled, Scope, Scopes, Value, outer_of};
 use fv_parse::{Tree, TreeId, TreeNode, same_names};
@@ -251,6 +252,31 @@ impl<'a> Definitions<'a> {
                 }
             }
             Scope::Definitions { list, outer: _ } => self.defined(*list, name, env),
+            Scope::Slots {
+                node,
+                parameter,
+                slot,
+                outer: _,
+            } => {
+                if self.is_parameter(*node, *parameter, name) {
+                    Some(Meaning::Slot(*slot))
+                } else {
+                    None
+                }
+            }
+        }
+    }
+
+    // Whether a parameter of a node has a name.
+    fn is_parameter(&self, node: TreeId, i: u64, name: u64) -> bool
+        ensures { TellsParameter self.now node i name result }
+    {
+        if node.number() >= self.tree.len() {
+            return false;
+        }
+        match parameter(self.tree, node, i) {
+            Some(n) => n == name,
+            None => false,
         }
     }
 

@@ -8,7 +8,7 @@ use Rattle.fv_eval_scopes.specs.declared.value.Scope as code_scope
 use Rattle.fv_eval_scopes.specs.declared.value.Scope.TheVariants as scope
 use Rattle.fv_eval_scopes.specs.declared.value.Argument as code_argument
 use Rattle.fv_eval_scopes.specs.declared.value.Binding as code_binding
-use Rattle.fv_eval_scopes.specs.Environments.{Environments, with_scope}
+use Rattle.fv_eval_scopes.specs.Environments.{Environments, next_number, with_scope}
 use Rattle.fv_rules.specs.headline.Values.{Value, Env, Taken, Nothing, And, in_order}
 use Rattle.fv_rules.specs.headline.Matching.{Bindings, bound_in}
 use Rattle.fv_eval_scopes.specs.Shows.{World, Grows, IsNamed, ShowsValue, ShowsValues, ShowsEnv, ShowsTaken, ShowsBindings}
@@ -83,7 +83,7 @@ binds_begin old outer = record {
 pub record BindsNext (now next : Environments) (env inner i : ℕ) (bindings : List code_binding.Binding) (b : code_binding.Binding) : Type 0 where
   pub inside : i < length bindings
   pub here : b ≡ get_or bindings i b
-  pub number : inner ≡ length now.scopes + 1
+  pub number : inner ≡ next_number now.scopes
   pub is : next ≡ with_scope now (scope.Bound b.name b.value env)
 
 pub binds_go_on : {old now next : Environments} {outer env inner i : ℕ} {bindings : List code_binding.Binding} {b : code_binding.Binding}
@@ -116,8 +116,6 @@ binds_go_on {old} {now} {next} {outer} {env} {inner} {i} {bindings} {b} so step 
         let named = named_grows w v g b.name nv.0 (subst (λ (y : code_binding.Binding). IsNamed w y.name nv.0) (sym f.1) k.3) in
         let shown = value_grows w v g b.value nv.1 (subst (λ (y : code_binding.Binding). ShowsValue w y.value nv.1) (sym f.1) k.4) in
         let env_shown = so.bound w E more e h (subst (λ xs. ShowsBindings w xs more) (sym f.0) k.5) in
-        let number = step.number in
-        let n : suc (length now.scopes) ≡ inner = omega arith in
-        subst (λ z. ShowsEnv (with_scopes w next.scopes) z (bound_in E (nv ∷ more))) n
-        (subst (λ ss. ShowsEnv (with_scopes w ss) (suc (length now.scopes)) (bound_in E (nv ∷ more))) (sym scopes)
+        subst (λ z. ShowsEnv (with_scopes w next.scopes) z (bound_in E (nv ∷ more))) (sym step.number)
+        (subst (λ ss. ShowsEnv (with_scopes w ss) (next_number now.scopes) (bound_in E (nv ∷ more))) (sym scopes)
         (bound_shows v b.name nv.0 b.value nv.1 env (bound_in E more) named shown env_shown))

@@ -1,4 +1,5 @@
 -- The lemmas that proofs of other crates take.
+pub mod Numbered
 pub mod Grown
 pub mod Outward
 pub mod Added

@@ -1,9 +1,9 @@
 -- What the numbers of an evaluation's lists stand for (this project's profile).
-use Rattle.std.specs.Prelude.{◌≡◌, ℕ, suc, ◌<◌, List, [], ◌∷◌, ◌++◌, map, filter, drop, Option, Some, None, slice_get}
+use Rattle.std.specs.Prelude.{◌≡◌, ◌⊎◌, ℕ, suc, ◌<◌, List, [], ◌∷◌, ◌++◌, map, filter, drop, Option, Some, None, slice_get}
 use Rattle.fv_parse.specs.Token.{Lexed}
 use Rattle.fv_parse.specs.Tree.{Tree, items, start_of}
 use Rattle.fv_parse.specs.Tree as tree
-use Rattle.fv_diagram.specs.headline.Diagram.{Diagram}
+use Rattle.fv_diagram.specs.headline.Diagram.{Diagram, Slot}
 use Rattle.fv_diagram.specs.Arena.{Arena, count_of, tree_of}
 use Rattle.fv_parse.specs.headline.Trees.{text_of}
 use Rattle.fv_parse.specs.Trees.{Parsed, size_of, tree_in, first_named}
@@ -89,6 +89,16 @@ abbrev pub IsInside : Parsed → Ruled → Type 0
 IsInside p (ruled.Case id) = id < size_of p
 IsInside p (ruled.Definitions list first) = (list < size_of p) × (first < size_of p) × IsFunction (tree_in p first)
 
+-- the innermost scope of an environment binds a name to a slot: it is a parameter, and this environment is around it
+pub record IsSlot (w : World) (i j : ℕ) (x : Name) (v : Value) : Type 0 where
+  pub node : ℕ
+  pub parameter : ℕ
+  pub slot : ℕ
+  pub kept : scope_in w.scopes i ≡ Some (scope.Slots node parameter slot j)
+  pub inside : node < size_of w.tree
+  pub name : slice_get (parameters_in w.tree.tokens (tree_in w.tree node)) parameter ≡ Some x
+  pub value : v ≡ Flat (Slot slot)
+
 -- values, environments and arguments, by their numbers
 abbrev mutual
   -- this value is that one
@@ -104,8 +114,8 @@ abbrev mutual
   pub ShowsEnv : World → ℕ → Env → Type 0
   ShowsEnv w i Outermost = i ≡ 0
   ShowsEnv w i (Bound x v E) =
-      (n : ℕ) × (u : code_value.Value) × (j : ℕ) × (scope_in w.scopes i ≡ Some (scope.Bound n u j)) × (j < i)
-      × IsNamed w n x × ShowsValue w u v × ShowsEnv w j E
+      (j : ℕ) × (j < i) × ShowsEnv w j E
+      × (((n : ℕ) × (u : code_value.Value) × (scope_in w.scopes i ≡ Some (scope.Bound n u j)) × IsNamed w n x × ShowsValue w u v) ⊎ IsSlot w i j x v)
   ShowsEnv w i (Scope ds E) =
       (id : TreeId) × (j : ℕ) × (scope_in w.scopes i ≡ Some (scope.Definitions id j)) × (j < i) × ShowsTree w id ds × ShowsEnv w j E
 
@@ -130,6 +140,7 @@ ShowsBindings w bs (nv ∷ more) =
 -- What a name stands for. The code makes an abstraction and rules of a definition at once.
 abbrev pub ShowsMeaning : World → code_meaning.Meaning → Meaning → Type 0
 ShowsMeaning w (meaning.Known u) (IsValue v) = ShowsValue w u v
+ShowsMeaning w (meaning.Slot k) (IsValue v) = v ≡ Flat (Slot k)
 ShowsMeaning w (meaning.Known u) (IsDefined (Parameters x xs b) E) = ShowsValue w u (Abstraction x xs b E)
 ShowsMeaning w (meaning.Known u) (IsDefined (Cases s rs) E) = ShowsValue w u (Rules s rs E Nothing)
 ShowsMeaning w (meaning.Body id e) (IsDefined (Plain x) E) = ShowsTree w id x × ShowsEnv w e E

@@ -10,7 +10,7 @@ mod value;
 mod ways;
 
 pub use memo::{Known, Numbers};
-pub use scopes::Scopes;
+pub use scopes::{STRIDE, Scopes};
 pub use slots::{Shortcut, Slots};
 pub use tries::Tries;
 pub use value::{Argument, Binding, Meaning, Ruled, Scope, Value};

@@ -1,9 +1,10 @@
 // The environments of an evaluation, and the arguments that rules have taken.
 
-ghost use Rattle.std.specs.Prelude.{◌≡◌, ◌+◌, ◌<◌, ◌≤◌, [], ◌∷◌, ◌++◌, length, IfOk, IfSome, OnErr, slice_get};
-ghost use Rattle.fv_eval_scopes.specs.declared.value.Scope.TheVariants.{Bound, Definitions};
+ghost use Rattle.std.specs.Prelude.{◌≡◌, ◌+◌, ◌-◌, ◌<◌, ◌≤◌, ◌^◌, [], ◌∷◌, ◌++◌, length, IfOk, IfSome, OnErr, slice_get};
+ghost use Rattle.fv_eval_scopes.specs.declared.scopes.TheConstants.{STRIDE as MOST_NUMBERS};
+ghost use Rattle.fv_eval_scopes.specs.declared.value.Scope.TheVariants.{Bound, Definitions, Slots};
 ghost use Rattle.fv_eval_scopes.specs.Ways.{PassesTo};
-ghost use Rattle.fv_eval_scopes.specs.Environments.{scope_in, with_scope, with_argument};
+ghost use Rattle.fv_eval_scopes.specs.Environments.{HasRoom, first_number, next_number, nth_scope, scope_in, with_scope, with_argument};
 ghost use Rattle.fv_rules.specs.headline.Values.{Env, Taken, in_order};
 ghost use Rattle.fv_eval_scopes.specs.declared.value.Value.{Value as AValue};
 ghost use Rattle.fv_rules.specs.headline.Matching.{Bindings, bound_in};
@@ -17,6 +18,12 @@ use fv_rules::too_many_to_keep;
 use std::alloc::{AllocError, Global};
 use std::marker::Model;
 
+/// So many environments each kept scope may stand for, one for each name that it binds: a text is not longer.
+pub const STRIDE: u64 = 1_048_576;
+
+// So many parameters and slots are fewer than there are numbers.
+const ROOM: u64 = 4_611_686_018_427_387_904;
+
 /// Environments and arguments that rules have taken. They are shared: one is made of the number of another, and is
 /// never changed. Environment 0 is the outermost one.
 #[derive(Drop)]
@@ -27,14 +34,15 @@ pub struct Scopes {
 }
 
 impl Model for Scopes {
-    ghost use Rattle.fv_eval_scopes.specs.Environments.{Environments};
+    ghost use Rattle.std.specs.Prelude.{All};
+    ghost use Rattle.fv_eval_scopes.specs.Environments.{Environments, HasRoom};
     ghost use Rattle.fv_eval_scopes.specs.Ways.{AreWays};
 
     ghost Value = { Environments };
 
     ghost view = { λ s. record { scopes = s.scopes.items; taken = s.taken.items } };
 
-    ghost invariant = { λ s. AreWays s.scopes.items s.ways };
+    ghost invariant = { λ s. AreWays s.scopes.items s.ways × All HasRoom s.scopes.items };
 }
 
 impl Scopes {
@@ -51,7 +59,7 @@ impl Scopes {
 
     /// Binds a name to a value in an environment, and returns the number of the new environment.
     pub fn bind(&mut self, name: u64, value: Value, outer: u64) -> Result<u64, AllocError>
-        ensures ok { IfOk result (λ i. (i ≡ length self.old.scopes + 1)
+        ensures ok { IfOk result (λ i. (i ≡ next_number self.old.scopes)
             × (self.new ≡ with_scope self.old (Bound name value outer))) }
         ensures err { OnErr result (self.new ≡ self.old) }
     {
@@ -60,21 +68,51 @@ impl Scopes {
 
     /// Opens a list of definitions in an environment, and returns the number of the new environment.
     pub fn open(&mut self, list: TreeId, outer: u64) -> Result<u64, AllocError>
-        ensures ok { IfOk result (λ i. (i ≡ length self.old.scopes + 1)
+        ensures ok { IfOk result (λ i. (i ≡ next_number self.old.scopes)
             × (self.new ≡ with_scope self.old (Definitions list outer))) }
         ensures err { OnErr result (self.new ≡ self.old) }
     {
         self.push(Scope::Definitions { list, outer })
     }
 
+    /// Binds `count` parameters of a node, from this one on, to as many slots, from this one on, in an environment. Returns the number
+    /// of the new environment. They are one scope that is kept.
+    pub fn bind_slots(
+        &mut self,
+        node: TreeId,
+        parameter: u64,
+        count: u64,
+        slot: u64,
+        outer: u64,
+    ) -> Result<u64, AllocError>
+        requires { 1 ≤ count }
+        ensures ok { IfOk result (λ i. (i ≡ next_number self.old.scopes + (count - 1)) × (count ≤ MOST_NUMBERS)
+            × (self.new ≡ with_scope self.old (Slots node parameter slot outer))) }
+        ensures err { OnErr result (self.new ≡ self.old) }
+    {
+        if count > STRIDE || parameter >= ROOM || slot >= ROOM {
+            return Err(too_many_to_keep());
+        }
+        let first = self.push(Scope::Slots {
+            node,
+            parameter,
+            slot,
+            outer,
+        })?;
+        Ok(first + (count - 1))
+    }
+
     // Adds a scope, with the way outward from it.
     fn push(&mut self, scope: Scope) -> Result<u64, AllocError>
-        ensures ok { IfOk result (λ i. (i ≡ length self.old.scopes + 1) × (self.new ≡ with_scope self.old scope)) }
+        requires { HasRoom scope }
+        ensures ok { IfOk result (λ i. (i ≡ next_number self.old.scopes) × (self.new ≡ with_scope self.old scope)) }
+        ensures small { IfOk result (λ i. i < 2 ^ 63) }
         ensures err { OnErr result (self.new ≡ self.old) }
     {
         // The borrow checker's proof needs the types within `Scope` named here.
         let _within: Option<(Value, Ruled)> = None;
-        if self.scopes.len() as u64 >= MOST_SCOPES {
+        let place = self.scopes.len() as u64;
+        if place >= MOST_SCOPES {
             return Err(too_many_to_keep());
         }
         self.scopes.push(scope)?;
@@ -82,7 +120,7 @@ impl Scopes {
             self.scopes.pop();
             return Err(refused);
         }
-        Ok(self.scopes.len() as u64)
+        Ok(first_number(place))
     }
 
     /// Adds an argument after the one with this number, and returns the number of the new one.
@@ -106,7 +144,19 @@ impl Scopes {
         if env == 0 {
             return None;
         }
-        self.scopes.get((env - 1) as usize).copied()
+        let before = env - 1;
+        match self.kept(before / STRIDE) {
+            None => None,
+            Some(scope) => Some(nth_scope(scope, before % STRIDE, before)),
+        }
+    }
+
+    /// The scope that is kept at a place.
+    pub fn kept(&self, place: u64) -> Option<Scope>
+        ensures kept { result ≡ slice_get self.now.scopes place }
+        ensures room { IfSome result HasRoom }
+    {
+        self.scopes.get(place as usize).copied()
     }
 
     /// An enclosing environment, or the same one, before which no scope outward has this key. The key of a scope is the name that
@@ -158,5 +208,39 @@ impl Scopes {
             env = self.bind(binding.name, binding.value, env)?;
         }
         Ok(env)
+    }
+}
+
+/// The number of the first environment of the scope that is kept at a place.
+pub(crate) fn first_number(place: u64) -> u64
+    requires { place < 2 ^ 40 }
+    ensures { result ≡ first_number place }
+{
+    place * STRIDE + 1
+}
+
+// A kept scope with so many behind it, which stand in the environment with this number.
+fn nth_scope(scope: Scope, k: u64, before: u64) -> Scope
+    requires room { HasRoom scope }
+    requires few { k < MOST_NUMBERS }
+    ensures { result ≡ nth_scope k before scope }
+{
+    if k == 0 {
+        return scope;
+    }
+    match scope {
+        Scope::Slots {
+            node,
+            parameter,
+            slot,
+            outer: _,
+        } => Scope::Slots {
+            node,
+            parameter: parameter + k,
+            slot: slot + k,
+            outer: before,
+        },
+        Scope::Bound { name, value, outer } => Scope::Bound { name, value, outer },
+        Scope::Definitions { list, outer } => Scope::Definitions { list, outer },
     }
 }

@@ -6,6 +6,7 @@ ghost use Rattle.fv_eval_scopes.specs.declared.value.Scope.{Scope as AScope};
 ghost use Rattle.fv_eval_scopes.specs.Slots.{AreSlots};
 ghost use Rattle.fv_eval_scopes.specs.Outward.{SkipsTo};
 
+use crate::scopes::STRIDE;
 use std::alloc::{AllocError, Global};
 use std::marker::Model;
 
@@ -61,7 +62,8 @@ impl Slots {
         if count == 0 {
             return None;
         }
-        let mixed = name.wrapping_mul(0x9e37_79b9).wrapping_add(from);
+        let near = (from / STRIDE).wrapping_add(from % STRIDE);
+        let mixed = name.wrapping_mul(0x9e37_79b9).wrapping_add(near);
         // The count is a power of two, unless a growth was refused.
         Some((mixed & (count - 1)) as usize)
     }

@@ -35,9 +35,24 @@ pub enum Value {
 #[derive(Clone, Copy, Debug)]
 pub enum Scope {
     /// A name, by its canonical number, and what it is bound to.
-    Bound { name: u64, value: Value, outer: u64 },
+    Bound {
+        name: u64,
+        value: Value,
+        outer: u64,
+    },
     /// A list of definitions.
-    Definitions { list: TreeId, outer: u64 },
+    Definitions {
+        list: TreeId,
+        outer: u64,
+    },
+    /// A parameter of an abstraction or of a definition, by its node and its place there, and the slot that it is bound to. As
+    /// it is kept, it stands for the parameters behind it too, which are bound to the next slots.
+    Slots {
+        node: TreeId,
+        parameter: u64,
+        slot: u64,
+        outer: u64,
+    },
 }
 
 /// An argument that rules have taken, and the number of the one before it.
@@ -61,6 +76,8 @@ pub enum Meaning {
     Known(Value),
     /// The right side of a definition, and the environment that it stands in.
     Body { body: TreeId, env: u64 },
+    /// A slot.
+    Slot(u64),
     /// Nothing defines or binds it.
     Unknown,
 }

@@ -1,10 +1,11 @@
 // Ways outward from environments over scopes that have nothing of a name.
 
-ghost use Rattle.std.specs.Prelude.{◌≡◌, ◌≤◌, [], ◌∷◌, ◌++◌, List, IfOk, OnErr, length, slice_get};
+ghost use Rattle.std.specs.Prelude.{◌≡◌, ◌<◌, ◌≤◌, ◌^◌, [], ◌∷◌, ◌++◌, List, IfOk, OnErr, Some, length, slice_get};
 ghost use Rattle.fv_eval_scopes.specs.declared.value.Scope.{Scope as AScope};
-ghost use Rattle.fv_eval_scopes.specs.Environments.{outer_number};
+ghost use Rattle.fv_eval_scopes.specs.Environments.{next_number, outer_number};
 ghost use Rattle.fv_eval_scopes.specs.Ways.{PassesTo, IsWay, AreWays, key_of};
 
+use crate::scopes::{STRIDE, first_number};
 use crate::tries::Tries;
 use crate::value::{Ruled, Scope, Value};
 use std::alloc::{AllocError, Global};
@@ -20,7 +21,7 @@ pub(crate) struct Way {
     end: u64,
 }
 
-/// The tries of environments: one for each but the outermost.
+/// The tries of environments: one for all environments of a kept scope.
 #[derive(Drop)]
 pub(crate) struct Ways {
     tries: Tries,
@@ -46,7 +47,11 @@ impl Ways {
         if env == 0 {
             return nowhere;
         }
-        match self.made(env - 1) {
+        let before = env - 1;
+        if before % STRIDE != 0 {
+            return nowhere;
+        }
+        match self.made(before / STRIDE) {
             None => nowhere,
             Some(way) => way,
         }
@@ -70,27 +75,31 @@ impl Ways {
 
     /// Adds the way outward from one scope more.
     pub(crate) fn add(&mut self, scope: &Scope) -> Result<(), AllocError>
+        requires { length self.old.ways.items < 2 ^ 40 }
         ensures ok { IfOk result (λ _. (scopes : List AScope) → AreWays scopes self.old → AreWays (scopes ++ scope.now ∷ []) self.new) }
         ensures err { OnErr result ((scopes : List AScope) → AreWays scopes self.old → AreWays scopes self.new) }
     {
         let _within: Option<(Value, Ruled)> = None;
         let outer = outer_of(scope);
         // No environment stands around itself.
-        if outer > self.ways.len() as u64 {
-            self.end()
-        } else {
-            self.go_on(key_of(scope), outer)
+        if outer >= first_number(self.ways.len() as u64) {
+            return self.end();
+        }
+        match key_of(scope) {
+            None => self.end(),
+            Some(key) => self.go_on(key, outer),
         }
     }
 
     // Adds the way outward from a scope with this key: that of the environment around it, and this scope.
     fn go_on(&mut self, key: u64, outer: u64) -> Result<(), AllocError>
-        ensures ok { IfOk result (λ _. (scopes : List AScope) (s : AScope) → key_of s ≡ key → outer_number s ≡ outer
-            → outer ≤ length scopes → AreWays scopes self.old → AreWays (scopes ++ s ∷ []) self.new) }
+        requires { length self.old.ways.items < 2 ^ 40 }
+        ensures ok { IfOk result (λ _. (scopes : List AScope) (s : AScope) → key_of s ≡ Some key → outer_number s ≡ outer
+            → outer < next_number scopes → AreWays scopes self.old → AreWays (scopes ++ s ∷ []) self.new) }
         ensures err { OnErr result ((scopes : List AScope) → AreWays scopes self.old → AreWays scopes self.new) }
     {
         let way = self.outward(outer);
-        let here = self.ways.len() as u64 + 1;
+        let here = first_number(self.ways.len() as u64);
         let root = self.tries.with(way.root, LEVELS, key, here)?;
         self.ways.push(Way { root, end: way.end })?;
         Ok(())
@@ -98,10 +107,11 @@ impl Ways {
 
     // Adds a way that goes nowhere.
     fn end(&mut self) -> Result<(), AllocError>
+        requires { length self.old.ways.items < 2 ^ 40 }
         ensures ok { IfOk result (λ _. (scopes : List AScope) (s : AScope) → AreWays scopes self.old → AreWays (scopes ++ s ∷ []) self.new) }
         ensures err { OnErr result ((scopes : List AScope) → AreWays scopes self.old → AreWays scopes self.new) }
     {
-        let here = self.ways.len() as u64 + 1;
+        let here = first_number(self.ways.len() as u64);
         self.ways.push(Way { root: 0, end: here })?;
         Ok(())
     }
@@ -112,16 +122,19 @@ pub fn outer_of(scope: &Scope) -> u64
     ensures { result ≡ outer_number scope.now }
 {
     match scope {
-        Scope::Bound { outer, .. } | Scope::Definitions { outer, .. } => *outer,
+        Scope::Bound { outer, .. }
+        | Scope::Definitions { outer, .. }
+        | Scope::Slots { outer, .. } => *outer,
     }
 }
 
-// The key of a scope.
-fn key_of(scope: &Scope) -> u64
+// The key of a scope, if it has one.
+fn key_of(scope: &Scope) -> Option<u64>
     ensures { result ≡ key_of scope.now }
 {
     match scope {
-        Scope::Bound { name, .. } => *name,
-        Scope::Definitions { list, .. } => list.number(),
+        Scope::Bound { name, .. } => Some(*name),
+        Scope::Definitions { list, .. } => Some(list.number()),
+        Scope::Slots { .. } => None,
     }
 }

@@ -6,7 +6,7 @@ use Rattle.fv_parse_grammar.specs.headline.Tree as tree
 use Rattle.fv_parse_grammar.specs.Slider.{Slider as SliderKind}
 use Rattle.fv_parse_grammar.specs.Iteration.{Iteration as Repetition}
 use Rattle.fv_parse.specs.headline.Trees.{text_of, label_of}
-use Rattle.fv_parse.specs.Trees.{Parsed, size_of, tree_in, first_named}
+use Rattle.fv_parse.specs.Trees.{Parsed, size_of, tree_in}
 use Rattle.fv_diagram.specs.headline.Diagram.{Diagram}
 use Rattle.fv_diagram.specs.Arena.{count_of, empty_arena}
 use Rattle.fv_eval_drawing.specs.Makes.{AreThere, trees_of}
@@ -305,14 +305,3 @@ abbrev pub ShowsTaking : World → Option code_value.Value → Option Value → 
 ShowsTaking w None None = Unit {0}
 ShowsTaking w (Some u) (Some v) = ShowsValue w u v
 ShowsTaking w o q = ⊥
-
--- A number of the code shows a name: it is the canonical number of a token with these bytes. Or there is neither.
-abbrev pub ShowsName : Lexed → Option ℕ → Option Name → Type 0
-ShowsName l None None = Unit {0}
-ShowsName l (Some n) (Some x) = (text_of l n ≡ x) × (first_named l n ≡ n)
-ShowsName l o q = ⊥
-
--- the name that a pattern is
-abbrev pub name_of : Lexed → Tree → Option Name
-name_of l (tree.Named s n) = Some (text_of l n)
-name_of l x = None

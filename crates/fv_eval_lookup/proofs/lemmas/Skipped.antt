@@ -2,13 +2,13 @@
 use Rattle.std.proofs.Common.{◌≡◌, ℕ, zero, suc, ◌<◌, List, Some}
 use Rattle.std.proofs.Common.{refl, sym, subst}
 use Rattle.std.specs.Prelude.{slice_get}
-use Rattle.std.proofs.lemmas.Option.{none-some}
 use Rattle.fv_parse.specs.Trees.{Parsed}
 use Rattle.fv_eval_scopes.specs.declared.value.Scope as code_scope
 use Rattle.fv_eval_scopes.specs.Environments.{scope_in, outer_number}
 use Rattle.fv_eval_lookup.specs.declared.shortcuts.Shortcuts.{Shortcuts}
 use Rattle.fv_eval_lookup.specs.Shortcuts.{AreShortcuts}
 use Rattle.fv_eval_scopes.specs.Outward.{HasNothing, SkipsTo, SkipsBy}
+use Rattle.fv_eval_scopes.proofs.lemmas.Numbered.{scope_stays}
 use Rattle.fv_eval_scopes.proofs.lemmas.Skips.{skips_none}
 use Rattle.fv_eval_lookup.proofs.Lookups.{StillReaches, look_begins, look_further, look_goes_on}
 use Rattle.fv_eval_lookup.proofs.Arounds.{around_grows}
@@ -42,13 +42,9 @@ skips_reach p scopes name env at h = reached_by p scopes name h.0 env at h.1
 
 module _ (p : Parsed) (old new : List code_scope.Scope)
     (same : (i : ℕ) (s : code_scope.Scope) → slice_get old i ≡ Some s → slice_get new i ≡ Some s) where
-  scope_stays : (env : ℕ) (s : code_scope.Scope) → scope_in old env ≡ Some s → scope_in new env ≡ Some s
-  scope_stays zero s e = absurd (none-some s e)
-  scope_stays (suc i) s e = same i s e
-
   skips_stay : (name n env at : ℕ) → SkipsBy p old name n env at → SkipsBy p new name n env at
   skips_stay name zero env at h = h
-  skips_stay name (suc n) env at h = (h.0, scope_stays env h.0 h.1, h.2, h.3, skips_stay name n (outer_number h.0) at h.4)
+  skips_stay name (suc n) env at h = (h.0, scope_stays old new same env h.0 h.1, h.2, h.3, skips_stay name n (outer_number h.0) at h.4)
 
   -- what is remembered of them is still true
   pub shortcuts_grow : (xs : Shortcuts) → AreShortcuts p old xs → AreShortcuts p new xs

@@ -1,7 +1,7 @@
 -- Lists that have grown show what they showed.
-use Rattle.std.proofs.Common.{◌≡◌, ℕ, zero, suc, ◌<◌, ◌≤◌, arith, List, [], ◌∷◌, ◌++◌, length, drop, Some, refl, sym, subst, ◌∙◌}
+use Rattle.std.proofs.Common.{◌≡◌, inl, inr, ℕ, zero, suc, ◌<◌, ◌≤◌, arith, List, [], ◌∷◌, ◌++◌, length, drop, Some, refl, sym, subst, ◌∙◌}
 use Rattle.std.specs.Prelude.{slice_get}
-use Rattle.std.proofs.lemmas.Option.{none-some, slice_get_within}
+use Rattle.std.proofs.lemmas.Option.{none-some}
 use Rattle.fv_diagram.specs.Arena.{Arena, count_of, tree_of}
 use Rattle.fv_parse.specs.Trees.{Parsed, size_of, tree_in}
 use Rattle.fv_eval_scopes.specs.declared.value.Value as code_value
@@ -10,12 +10,13 @@ use Rattle.fv_eval_scopes.specs.declared.value.Scope as code_scope
 use Rattle.fv_eval_scopes.specs.declared.value.Scope.TheVariants as scope
 use Rattle.fv_eval_scopes.specs.declared.value.Argument as code_argument
 use Rattle.fv_eval_scopes.specs.declared.value.Binding as code_binding
-use Rattle.fv_eval_scopes.specs.Environments.{scope_in}
+use Rattle.fv_eval_scopes.specs.Environments.{next_number, scope_in}
 use Rattle.fv_rules.specs.headline.Values.{Name, Value, Flat, Abstraction, Rules, Env, Outermost, Bound, Scope, Taken, Nothing, And}
 use Rattle.fv_rules.specs.headline.Matching.{Bindings}
 use Rattle.fv_parse.specs.Tree.{Tree}
 use Rattle.fv_eval_scopes.specs.Shows.{World, IsNamed, IsInside, parameters_in, body_in, rules_in, begins_in, ShowsTree, ShowsValue, ShowsValues, ShowsEnv}
-use Rattle.fv_eval_scopes.specs.Shows.{ShowsTaken, ShowsBindings, Grows}
+use Rattle.fv_eval_scopes.specs.Shows.{ShowsTaken, ShowsBindings, Grows, IsSlot}
+use Rattle.fv_eval_scopes.proofs.lemmas.Numbered.{scope_below, scope_first, scope_stays}
 
 -- what is said of the tree alone stays
 pub named_grows : (a b : World) → Grows a b → (n : ℕ) (x : Name) → IsNamed a n x → IsNamed b n x
@@ -25,8 +26,18 @@ pub tree_grows : (a b : World) → Grows a b → (id : ℕ) (x : Tree) → Shows
 tree_grows a b g id x h = subst (λ (p : Parsed). ShowsTree (record b { tree = p }) id x) (sym g.tree) h
 
 scope_grows : (a b : World) → Grows a b → (i : ℕ) (x : code_scope.Scope) → scope_in a.scopes i ≡ Some x → scope_in b.scopes i ≡ Some x
-scope_grows a b g zero x h = h
-scope_grows a b g (suc i) x h = g.scopes i x h
+scope_grows a b g i x h = scope_stays a.scopes b.scopes g.scopes i x h
+
+slot_grows : (a b : World) → Grows a b → (i j : ℕ) (x : Name) (v : Value) → IsSlot a i j x v → IsSlot b i j x v
+slot_grows a b g i j x v h = record {
+  node = h.node;
+  parameter = h.parameter;
+  slot = h.slot;
+  kept = scope_grows a b g i _ h.kept;
+  inside = subst (λ (p : Parsed). h.node < size_of p) (sym g.tree) h.inside;
+  name = subst (λ (p : Parsed). slice_get (parameters_in p.tokens (tree_in p h.node)) h.parameter ≡ Some x) (sym g.tree) h.name;
+  value = h.value;
+}
 
 mutual
   pub value_grows : (a b : World) → Grows a b → (u : code_value.Value) (v : Value) → ShowsValue a u v → ShowsValue b u v
@@ -42,8 +53,9 @@ mutual
 
   pub env_grows : (a b : World) → Grows a b → (i : ℕ) (E : Env) → ShowsEnv a i E → ShowsEnv b i E
   env_grows a b g i Outermost h = h
-  env_grows a b g i (Bound x v E) h =
-      (h.0, h.1, h.2, scope_grows a b g i _ h.3, h.4, named_grows a b g h.0 x h.5, value_grows a b g h.1 v h.6, env_grows a b g h.2 E h.7)
+  env_grows a b g i (Bound x v E) (j, l, k, inl h) =
+      (j, l, env_grows a b g j E k, inl (h.0, h.1, scope_grows a b g i _ h.2, named_grows a b g h.0 x h.3, value_grows a b g h.1 v h.4))
+  env_grows a b g i (Bound x v E) (j, l, k, inr h) = (j, l, env_grows a b g j E k, inr (slot_grows a b g i j x v h))
   env_grows a b g i (Scope d E) h = (h.0, h.1, scope_grows a b g i _ h.2, h.3, tree_grows a b g h.0 d h.4, env_grows a b g h.1 E h.5)
 
   pub taken_grows : (a b : World) → Grows a b → (n i : ℕ) (T : Taken) → ShowsTaken a n i T → ShowsTaken b n i T
@@ -94,32 +106,32 @@ grows_on a b c g h = record {
   taken = λ i x y. h.taken i x (g.taken i x y);
 }
 
--- an environment's number is in the list, or 0
-pub env_inside : (w : World) (i : ℕ) (E : Env) → ShowsEnv w i E → i ≤ length w.scopes
-env_inside w zero E h = omega arith
-env_inside w (suc i) Outermost h = let e : suc i ≡ 0 = h in absurd (omega (arith, e))
-env_inside w (suc i) (Bound x v E) h = let k = slice_get_within w.scopes i _ h.3 in omega (arith, k)
-env_inside w (suc i) (Scope d E) h = let k = slice_get_within w.scopes i _ h.2 in omega (arith, k)
+-- an environment's number is below the next one
+pub env_inside : (w : World) (i : ℕ) (E : Env) → ShowsEnv w i E → i < next_number w.scopes
+env_inside w i Outermost h = let e : i ≡ 0 = h in omega (arith, e)
+env_inside w i (Bound x v E) (j, l, k, inl h) = scope_below w.scopes i _ h.2
+env_inside w i (Bound x v E) (j, l, k, inr h) = scope_below w.scopes i _ h.kept
+env_inside w i (Scope d E) h = scope_below w.scopes i _ h.2
 
 -- the number that `bind` gives is the name bound in the environment
 pub bound_shows : (w : World) (n : ℕ) (x : Name) (u : code_value.Value) (v : Value) (e : ℕ) (E : Env) → IsNamed w n x → ShowsValue w u v → ShowsEnv w e E
-    → ShowsEnv (record w { scopes = w.scopes ++ scope.Bound n u e ∷ [] }) (suc (length w.scopes)) (Bound x v E)
+    → ShowsEnv (record w { scopes = w.scopes ++ scope.Bound n u e ∷ [] }) (next_number w.scopes) (Bound x v E)
 bound_shows w n x u v e E h k m =
     let s = scope.Bound n u e in
     let new : World = record w { scopes = w.scopes ++ s ∷ [] } in
     let g = scope_opens w s in
     let i = env_inside w e E m in
-    (n, u, e, last_place w.scopes s, omega (arith, i), h, value_grows w new g u v k, env_grows w new g e E m)
+    (e, i, env_grows w new g e E m, inl (n, u, scope_first new.scopes (length w.scopes) s (last_place w.scopes s), h, value_grows w new g u v k))
 
 -- the number that `open` gives is the list of definitions in the environment
 pub opened_shows : (w : World) (id : ℕ) (ds : Tree) (e : ℕ) (E : Env) → ShowsTree w id ds → ShowsEnv w e E
-    → ShowsEnv (record w { scopes = w.scopes ++ scope.Definitions id e ∷ [] }) (suc (length w.scopes)) (Scope ds E)
+    → ShowsEnv (record w { scopes = w.scopes ++ scope.Definitions id e ∷ [] }) (next_number w.scopes) (Scope ds E)
 opened_shows w id ds e E h m =
     let s = scope.Definitions id e in
     let new : World = record w { scopes = w.scopes ++ s ∷ [] } in
     let g = scope_opens w s in
     let i = env_inside w e E m in
-    (id, e, last_place w.scopes s, omega (arith, i), h, env_grows w new g e E m)
+    (id, e, scope_first new.scopes (length w.scopes) s (last_place w.scopes s), i, h, env_grows w new g e E m)
 
 -- the number that `take` gives is the argument after those before
 pub taken_shows : (w : World) (u : code_value.Value) (v : Value) (n i : ℕ) (T : Taken) → ShowsValue w u v → ShowsTaken w n i T

@@ -1,4 +1,5 @@
-use Rattle.std.proofs.Common.{refl, arith, ◌+◌}
+use Rattle.std.proofs.Common.{refl, ap, arith, ◌∙◌}
+use Rattle.fv_eval_scopes.specs.Environments.{first_number}
 use Rattle.std.proofs.lemmas.Result.{err_from_is_err_and}
 use Rattle.fv_eval_scopes.specs.declared.ways.Way.{Way}
 use Rattle.fv_eval_scopes.specs.declared.ways.Ways.{Ways}
@@ -26,5 +27,6 @@ returns-clause-ok c scopes s key outer below h =
     let way : Way = c.outward-way.result in
     let out = c.outward-way.ensures scopes h in
     let kept : IsKept scopes s c.args.key c.args.outer = record { has = key; around = outer; below = below } in
-    keeps_on scopes s old new c.args.key c.args.outer (c.len.result + 1) c.in_ok-root.root way c.in_ok-root.ensures.grown
-    c.in_ok-push.ensures.items (omega (arith, c.len.ensures, old.ways.ok.0)) kept out (c.in_ok-root.ensures.with out.there) h
+    keeps_on scopes s old new c.args.key c.args.outer c.first_number-here.result c.in_ok-root.root way c.in_ok-root.ensures.grown
+    c.in_ok-push.ensures.items (c.first_number-here.ensures ∙ ap first_number (omega (arith, c.len.ensures, old.ways.ok.0))) kept out
+    (c.in_ok-root.ensures.with out.there) h

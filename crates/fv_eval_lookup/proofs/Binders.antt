@@ -1,13 +1,19 @@
 -- The parameters of abstractions and definitions, by their places.
-use Rattle.std.proofs.Common.{◌≡◌, ℕ, zero, suc, ◌<◌, List, [], ◌∷◌, length, map, Option, Some, None, refl, sym, ap, subst, ◌∙◌, arith}
+use Rattle.std.proofs.Common.{◌≡◌, ℕ, zero, suc, ◌<◌, List, [], ◌∷◌, length, map, get_or, Option, Some, None, Vec, refl, sym, ap, subst, ◌∙◌, arith}
+use Rattle.std.specs.declared.alloc.Global.{Global}
 use Rattle.std.specs.Prelude.{slice_get, option_map}
 use Rattle.std.proofs.lemmas.Option.{none-some}
 use Rattle.fv_parse.specs.Token.{Lexed}
-use Rattle.fv_parse_grammar.specs.headline.Tree.{Tree}
+use Rattle.fv_parse_grammar.specs.headline.Tree.{Tree, End}
 use Rattle.fv_parse_grammar.specs.headline.Tree as tree
 use Rattle.fv_rules.specs.headline.Values.{Name, with_name, names_of}
-use Rattle.fv_eval_scopes.specs.Shows.{given_names}
-use Rattle.fv_eval.specs.inner.Continuations.{ShowsName, name_of}
+use Rattle.fv_eval_scopes.specs.Shows.{given_names, parameters_in}
+use Rattle.fv_parse.specs.TreeId.{TreeId}
+use Rattle.fv_parse.specs.TreeNode.{TreeNode}
+use Rattle.fv_parse.specs.TreeNode.TheVariants as nodes
+use Rattle.fv_parse.specs.Arena.{tree_of, forest}
+use Rattle.fv_parse.specs.Trees.{Parsed, tree_in, node_tree}
+use Rattle.fv_eval_lookup.specs.Parameters.{ShowsName, name_of}
 
 -- the pattern at a place, and the name at the same one
 abbrev pub NameAt : Lexed → Option Tree → Option Name → Type 0
@@ -81,3 +87,36 @@ pub parameter_count : (l : Lexed) (ts : List Tree) (f : ℕ → Tree) (ids : Lis
     → map f ids ≡ ts → 0 < length (given_names (names_of l ts)) → length ids ≡ length (given_names (names_of l ts))
 parameter_count l ts f ids e some =
     let n = names_count l ts (given_names (names_of l ts)) (all_names (names_of l ts) some) in omega (arith, n, ap length e, map_length f ids)
+
+-- ---- nodes
+
+-- what is said of a node's tree is said by its form
+pub at_node : (p : Parsed) (id start : ℕ) (node form : TreeNode) (P : Tree → Type 0)
+    → tree_in p id ≡ node_tree p node start → node ≡ form → P (node_tree p form start) → P (tree_in p id)
+at_node p id start node form P t e h = subst P (sym (t ∙ ap (λ n. node_tree p n start) e)) h
+
+-- what is read at a place
+pub get_within : {A : Type 0} (xs : List A) (i : ℕ) (x : A) → i < length xs → x ≡ get_or xs i x → slice_get xs i ≡ Some x
+get_within [] i x l e = absurd (omega arith)
+get_within (y ∷ ys) zero x l e = ap Some (sym e)
+get_within (y ∷ ys) (suc i) x l e = get_within ys i x (omega arith) e
+
+pub no_parameters : (l : Lexed) (ts : List Tree) (node : TreeNode) (start : ℕ) → ((ns : Vec ℕ Global) (x : TreeId) → node ≡ nodes.Abstraction ns x → ⊥)
+    → ((n : ℕ) (ps x : TreeId) → node ≡ nodes.Function n ps x → ⊥) → parameters_in l (tree_of ts node start) ≡ []
+no_parameters l ts (nodes.Abstraction ns x) start a b = absurd (a ns x refl)
+no_parameters l ts (nodes.Function n ps x) start a b = absurd (b n ps x refl)
+no_parameters l ts (nodes.List ids) start a b = other ids.items
+  where
+    other : (is : List TreeId) → parameters_in l (forest ts is End) ≡ []
+    other [] = refl
+    other (i ∷ is) = refl
+no_parameters l ts node start a b = refl
+
+pub no_name : (l : Lexed) (ts : List Tree) (node : TreeNode) (start : ℕ) → ((n : ℕ) → node ≡ nodes.Named n → ⊥) → name_of l (tree_of ts node start) ≡ None
+no_name l ts (nodes.Named n) start a = absurd (a n refl)
+no_name l ts (nodes.List ids) start a = other ids.items
+  where
+    other : (is : List TreeId) → name_of l (forest ts is End) ≡ None
+    other [] = refl
+    other (i ∷ is) = refl
+no_name l ts node start a = refl

@@ -6,12 +6,12 @@ use Rattle.fv_parse.specs.Arena.{trees}
 use Rattle.fv_parse.specs.TreeNode.TheVariants as nodes
 use Rattle.fv_parse.specs.Trees.{tree_in, start_in}
 use Rattle.fv_eval_scopes.specs.Shows.{parameters_in}
-use Rattle.fv_eval.specs.inner.Continuations.{ShowsName}
-use Rattle.fv_eval.proofs.Moves.{at_node}
-use Rattle.fv_eval.proofs.Others.{no_parameters}
-use Rattle.fv_eval_drawing.proofs.lemmas.Entered.{get_within}
-use Rattle.fv_eval.proofs.Parameters.{parameter_named, parameter_none}
-use Rattle.fv_eval.proofs.names.parameter.Goals as goal
+use Rattle.fv_eval_lookup.specs.Parameters.{ShowsName}
+use Rattle.fv_eval_lookup.proofs.Binders.{at_node}
+use Rattle.fv_eval_lookup.proofs.Binders.{no_parameters}
+use Rattle.fv_eval_lookup.proofs.Binders.{get_within}
+use Rattle.fv_eval_lookup.proofs.Binders.{parameter_named, parameter_none}
+use Rattle.fv_eval_lookup.proofs.parameter_names.parameter.Goals as goal
 
 pub returns-in-Some-get : goal.returns-in-Some-get
 returns-in-Some-get c =
