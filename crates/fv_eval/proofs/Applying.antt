@@ -25,7 +25,7 @@ use Rattle.fv_eval.proofs.Applied.{apply_completes, apply_took}
 use Rattle.fv_eval.proofs.Arrived.{Applies, Argues}
 use Rattle.fv_eval.specs.inner.Continuations.{Completes}
 use Rattle.fv_eval.proofs.Moves.{gives, grew_on, steps_on}
-use Rattle.fv_eval_lookup.proofs.Binders.{get_map}
+use Rattle.fv_eval_scopes.proofs.lemmas.Binders.{get_map}
 use Rattle.fv_eval.proofs.Places.{drop_at_end, drop_at_get, drop_behind}
 use Rattle.fv_eval.proofs.Taking.{Takes}
 use Rattle.fv_eval.proofs.There.{first_left}

@@ -28,7 +28,8 @@ use Rattle.fv_eval.proofs.Moves.{scoped_grew, steps_on, visits}
 use Rattle.fv_eval.proofs.SliderLemmas.{GoesOn}
 
 -- a tree among definitions
-pub among_goes : (p : Parsed) (m : code_machine.Machine) (new : Environments) (list id e inner : ℕ) (ds x : Tree) (E : Env) → inner ≡ next_number m.scopes.scopes
+pub among_goes : (p : Parsed) (m : code_machine.Machine) (new : Environments) (list id e inner : ℕ) (ds x : Tree) (E : Env)
+    → inner ≡ next_number m.scopes.scopes
     → new ≡ with_scope m.scopes (scope.Definitions list e) → ShowsTree (world p m) list ds → ShowsTree (world p m) id x → ShowsEnv (world p m) e E
     → Steps p m (record m { scopes = new }) (Ok (focus.Visit id inner)) (λ Fs s. Running (Visit x (Scope ds E)) Fs s)
 among_goes p m new list id e inner ds x E i is t u h =

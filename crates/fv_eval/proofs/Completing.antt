@@ -28,7 +28,7 @@ use Rattle.fv_rules.specs.Machine.{Leftover, Valued, Visit, Running, Ended, sele
 use Rattle.fv_eval.specs.declared.continuation.Focus as code_focus
 use Rattle.fv_eval.specs.declared.machine.Machine as code_machine
 use Rattle.fv_eval.specs.inner.Continuations.{AllDraw, AreShown, Chooses, Completes, Grew, IsShown, Selects, Steps, completed, world}
-use Rattle.fv_eval_lookup.specs.Parameters.{ShowsName}
+use Rattle.fv_eval_scopes.specs.Parameters.{ShowsName}
 use Rattle.fv_eval.proofs.Moves.{knows_scoped, scoped_grew, steps_on}
 use Rattle.fv_eval.proofs.Places.{drop_at_get}
 use Rattle.fv_eval.proofs.Received.{Feeds}

@@ -35,7 +35,7 @@ use Rattle.fv_eval.proofs.Received.{Receives}
 
 -- ---- parameters that one scope binds to slots
 
--- the parameters behind one are bound to the slots behind its own
+-- the parameters after one are bound to the slots after its own
 slots_go_on : (w : World) (n f i slot o : ℕ) → slice_get w.scopes n ≡ Some (scope.Slots f i slot o) → f < size_of w.tree
     → (xs : List Name) (k : ℕ) (F : Env) → drop (i + suc k) (parameters_in w.tree.tokens (tree_in w.tree f)) ≡ xs → k + length xs < STRIDE
     → ShowsEnv w (first_number n + k) F → ShowsEnv w (first_number n + (k + length xs)) (on_slots xs (slot + suc k) F)
@@ -97,7 +97,7 @@ slots_bound w f i slot o count E inside some few h (x ∷ xs) e many =
     subst (λ j. ShowsEnv new (first_number n + j) (on_slots xs (suc slot) G)) number
     (subst (λ j. ShowsEnv new (first_number n + (0 + length xs)) (on_slots xs j G)) second rest)
 
--- the machine behind it
+-- the machine after it
 abbrev pub with_slots : code_machine.Machine → Environments → ℕ → code_machine.Machine
 with_slots m s next = record m { scopes = s; slot = next }
 

@@ -17,7 +17,7 @@ use Rattle.fv_eval_scopes.specs.Shows.{World, IsNamed, ShowsEnv, ShowsTaken, Sho
 use Rattle.fv_eval_scopes.proofs.lemmas.Grown.{argument_comes, bound_shows, env_grows, taken_shows}
 use Rattle.fv_eval.specs.declared.machine.Machine as code_machine
 use Rattle.fv_eval.specs.inner.Continuations.{Grew, IsShown, ShowsTaking, took, world}
-use Rattle.fv_eval_lookup.specs.Parameters.{ShowsName}
+use Rattle.fv_eval_scopes.specs.Parameters.{ShowsName}
 use Rattle.fv_eval.proofs.Places.{drop_behind, get_at_drop}
 
 -- the clause of `take`

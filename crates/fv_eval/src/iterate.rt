@@ -20,8 +20,8 @@ use crate::arrive::give;
 use crate::continuation::{Continuation, Focus, ForDiagram};
 use crate::machine::Machine;
 use fv_diagram::{DiagramId, Node};
-use fv_eval_lookup::{Definitions, canonical};
-use fv_eval_scopes::Value;
+use fv_eval_lookup::Definitions;
+use fv_eval_scopes::{Value, canonical};
 use fv_parse::{Tree, TreeId, TreeNode};
 use fv_rules::EvalRefusal;
 

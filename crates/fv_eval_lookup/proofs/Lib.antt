@@ -2,7 +2,6 @@ pub mod Arounds
 pub mod Keyed
 pub mod Lookups
 pub mod Named
-pub mod Binders
 pub mod Refused
 pub mod RuleNodes
 pub mod RulesChosen

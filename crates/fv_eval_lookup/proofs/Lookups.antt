@@ -1,5 +1,6 @@
 -- The steps of a look-up.
-use Rattle.std.proofs.Common.{◌≡◌, inl, inr, ℕ, zero, suc, ◌<◌, ◌≤◌, arith, Bool, true, false, List, [], ◌∷◌, length, map, get_or, cond, Option, Some, None, refl}
+use Rattle.std.proofs.Common.{◌≡◌, inl, inr, ℕ, zero, suc, ◌<◌, ◌≤◌, arith, Bool, true, false, List, [], ◌∷◌, length, map, get_or, cond}
+use Rattle.std.proofs.Common.{Option, Some, None, refl}
 use Rattle.std.proofs.Common.{sym, ap, subst, ◌∙◌, All}
 use Rattle.std.specs.Prelude.{filter, slice_get}
 use Rattle.std.proofs.lemmas.List.{length-map}
@@ -37,7 +38,7 @@ use Rattle.fv_eval_scopes.specs.declared.value.Ruled.{Ruled}
 use Rattle.fv_eval_lookup.proofs.RuleNodes.{IsNoFunction, AreOfName}
 use Rattle.fv_eval_scopes.specs.Outward.{HasNothing, outer}
 use Rattle.fv_eval_lookup.specs.inner.Lookup.{SaysOrPasses, IsMade, TellsParameter, is_name, are_names}
-use Rattle.fv_eval_lookup.specs.Parameters.{ShowsName}
+use Rattle.fv_eval_scopes.specs.Parameters.{ShowsName}
 
 -- ---- what definitions make of a name
 
@@ -427,7 +428,7 @@ parameter_tells p f k name n shows = (
         let some : 0 < length names = omega (arith, slice_get_within names k x at) in
         subst (ShowsName p.tokens (Some n)) at (shows some)
 
--- where there are not so many, none has it
+-- where there is no parameter with this number, none has it
 pub no_parameter_tells : (p : Parsed) (f k name : ℕ)
     → (0 < length (parameters_in p.tokens (tree_in p f)) → ShowsName p.tokens None (slice_get (parameters_in p.tokens (tree_in p f)) k))
     → TellsParameter p f k name false

@@ -4,6 +4,5 @@ pub mod Chosen
 pub mod inner
 pub mod Indexes
 pub mod Leaving
-pub mod Parameters
 pub mod Positions
 pub mod Shortcuts

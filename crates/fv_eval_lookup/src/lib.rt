@@ -7,12 +7,10 @@ mod by_name;
 mod first_rule;
 mod index;
 mod lookup;
-mod parameter_names;
 mod paths;
 mod positions;
 mod shortcuts;
 mod wants;
 
 pub use lookup::Definitions;
-pub use parameter_names::{canonical, parameter, parameters};
 pub use shortcuts::Shortcuts;

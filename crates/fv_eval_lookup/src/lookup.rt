@@ -19,9 +19,8 @@ ghost use Rattle.fv_eval_lookup.specs.inner.Lookup.{SaysOrPasses, IsMade, TellsP
 use crate::around::Around;
 use crate::by_name::{ByName, Defined, by_name};
 use crate::index::RuleIndex;
-use crate::parameter_names::parameter;
 use crate::shortcuts::Shortcuts;
-use fv_eval_scopes::{Meaning, Ruled, Scope, Scopes, Value, outer_of};
+use fv_eval_scopes::{Meaning, Ruled, Scope, Scopes, Value, outer_of, parameter};
 use fv_parse::{Tree, TreeId, TreeNode, same_names};
 use std::alloc::{AllocError, Global};
 use std::marker::Model;

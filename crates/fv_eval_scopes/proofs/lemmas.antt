@@ -5,3 +5,4 @@ pub mod Outward
 pub mod Added
 pub mod Forks
 pub mod Skips
+pub mod Binders

@@ -18,14 +18,14 @@ first_number place = suc (place * STRIDE)
 abbrev pub next_number : List Scope → ℕ
 next_number scopes = first_number (length scopes)
 
--- A kept scope with so many behind it, which stand in the environment with this number: of parameters it is the one so much
--- further on, and every other scope is one alone.
+-- The innermost scope of environment k of a kept scope, counted from 0, where `before` is the number of the environment before it.
+-- Of parameters it is the one that is k further on; any other kept scope is the same in each of its environments.
 abbrev pub nth_scope : (k before : ℕ) → Scope → Scope
 nth_scope zero before s = s
 nth_scope (suc k) before (scope.Slots f i slot outer) = scope.Slots f (i + suc k) (slot + suc k) before
 nth_scope (suc k) before s = s
 
--- the same, where there is one
+-- the innermost scope of environment k of a kept scope, where there is one
 abbrev pub nth_of : (k before : ℕ) → Option Scope → Option Scope
 nth_of k before None = None
 nth_of k before (Some s) = Some (nth_scope k before s)
@@ -36,7 +36,7 @@ abbrev pub scope_in : List Scope → ℕ → Option Scope
 scope_in scopes zero = None
 scope_in scopes (suc i) = nth_of (i % STRIDE) i (slice_get scopes (i / STRIDE))
 
--- the numbers of parameters and slots behind a kept scope have room
+-- the numbers of all parameters and slots of a kept scope have room
 abbrev pub HasRoom : Scope → Type 0
 HasRoom (scope.Slots f i slot outer) = (i < 2 ^ 62) × (slot < 2 ^ 62)
 HasRoom s = Unit {0}

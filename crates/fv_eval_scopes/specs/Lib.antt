@@ -5,3 +5,4 @@ pub mod Shows
 pub mod Memo
 pub mod Outward
 pub mod Slots
+pub mod Parameters

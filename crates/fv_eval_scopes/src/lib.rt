@@ -3,6 +3,7 @@
 #![tactic(auto)]
 
 mod memo;
+mod parameter_names;
 mod scopes;
 mod slots;
 mod tries;
@@ -10,6 +11,7 @@ mod value;
 mod ways;
 
 pub use memo::{Known, Numbers};
+pub use parameter_names::{canonical, parameter, parameters};
 pub use scopes::{STRIDE, Scopes};
 pub use slots::{Shortcut, Slots};
 pub use tries::Tries;

@@ -18,10 +18,10 @@ use fv_rules::too_many_to_keep;
 use std::alloc::{AllocError, Global};
 use std::marker::Model;
 
-/// So many environments each kept scope may stand for, one for each name that it binds: a text is not longer.
+/// How many environments a kept scope may stand for, one for each name that it binds: as many as a text may have bytes.
 pub const STRIDE: u64 = 1_048_576;
 
-// So many parameters and slots are fewer than there are numbers.
+// Numbers of parameters and slots are below this, so that the sum of two of them has room.
 const ROOM: u64 = 4_611_686_018_427_387_904;
 
 /// Environments and arguments that rules have taken. They are shared: one is made of the number of another, and is
@@ -219,7 +219,7 @@ pub(crate) fn first_number(place: u64) -> u64
     place * STRIDE + 1
 }
 
-// A kept scope with so many behind it, which stand in the environment with this number.
+// Returns the innermost scope of environment `k` of a kept scope, counted from 0; `before` is the number of the environment before it.
 fn nth_scope(scope: Scope, k: u64, before: u64) -> Scope
     requires room { HasRoom scope }
     requires few { k < MOST_NUMBERS }

@@ -45,8 +45,8 @@ pub enum Scope {
         list: TreeId,
         outer: u64,
     },
-    /// A parameter of an abstraction or of a definition, by its node and its place there, and the slot that it is bound to. As
-    /// it is kept, it stands for the parameters behind it too, which are bound to the next slots.
+    /// A parameter of an abstraction or of a definition, by its node and its index there, and the slot that it is bound to. A kept
+    /// scope stands for the parameters after it too, which are bound to the next slots.
     Slots {
         node: TreeId,
         parameter: u64,

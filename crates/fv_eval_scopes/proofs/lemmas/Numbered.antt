@@ -9,7 +9,7 @@ use Rattle.fv_eval_scopes.specs.declared.value.Scope as code_scope
 use Rattle.fv_eval_scopes.specs.declared.scopes.TheConstants.{STRIDE}
 use Rattle.fv_eval_scopes.specs.Environments.{first_number, next_number, nth_of, nth_scope, scope_in}
 
--- a scope so many behind one that is kept
+-- the scope that is k environments after the first one of a kept scope
 pub scope_behind : (scopes : List code_scope.Scope) (n k : ℕ) (s : code_scope.Scope) → k < STRIDE → slice_get scopes n ≡ Some s
     → scope_in scopes (first_number n + k) ≡ Some (nth_scope k (n * STRIDE + k) s)
 scope_behind scopes n k s l e =

@@ -6,12 +6,12 @@ use Rattle.fv_parse.specs.Arena.{trees}
 use Rattle.fv_parse.specs.TreeNode.TheVariants as nodes
 use Rattle.fv_parse.specs.Trees.{tree_in, start_in}
 use Rattle.fv_eval_scopes.specs.Shows.{parameters_in}
-use Rattle.fv_eval_lookup.specs.Parameters.{ShowsName}
-use Rattle.fv_eval_lookup.proofs.Binders.{at_node}
-use Rattle.fv_eval_lookup.proofs.Binders.{no_parameters}
-use Rattle.fv_eval_lookup.proofs.Binders.{get_within}
-use Rattle.fv_eval_lookup.proofs.Binders.{parameter_named, parameter_none}
-use Rattle.fv_eval_lookup.proofs.parameter_names.parameter.Goals as goal
+use Rattle.fv_eval_scopes.specs.Parameters.{ShowsName}
+use Rattle.fv_eval_scopes.proofs.lemmas.Binders.{at_node}
+use Rattle.fv_eval_scopes.proofs.lemmas.Binders.{no_parameters}
+use Rattle.fv_eval_scopes.proofs.lemmas.Binders.{get_within}
+use Rattle.fv_eval_scopes.proofs.lemmas.Binders.{parameter_named, parameter_none}
+use Rattle.fv_eval_scopes.proofs.parameter_names.parameter.Goals as goal
 
 pub returns-in-Some-get : goal.returns-in-Some-get
 returns-in-Some-get c =

@@ -4,10 +4,10 @@ use Rattle.fv_parse.specs.Arena.{trees}
 use Rattle.fv_parse.specs.TreeNode.TheVariants as nodes
 use Rattle.fv_parse.specs.Trees.{tree_in, start_in}
 use Rattle.fv_eval_scopes.specs.Shows.{parameters_in}
-use Rattle.fv_eval_lookup.proofs.Binders.{at_node}
-use Rattle.fv_eval_lookup.proofs.Binders.{no_parameters}
-use Rattle.fv_eval_lookup.proofs.Binders.{parameter_count}
-use Rattle.fv_eval_lookup.proofs.parameter_names.parameters.Goals as goal
+use Rattle.fv_eval_scopes.proofs.lemmas.Binders.{at_node}
+use Rattle.fv_eval_scopes.proofs.lemmas.Binders.{no_parameters}
+use Rattle.fv_eval_scopes.proofs.lemmas.Binders.{parameter_count}
+use Rattle.fv_eval_scopes.proofs.parameter_names.parameters.Goals as goal
 
 pub returns-in-Function : goal.returns-in-Function
 returns-in-Function c =

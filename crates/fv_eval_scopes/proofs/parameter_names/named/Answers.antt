@@ -1,9 +1,9 @@
 use Rattle.std.proofs.Common.{sym, ap, ◌∙◌}
 use Rattle.std.proofs.lemmas.Option.{none-some}
 use Rattle.fv_parse.specs.Arena.{trees}
-use Rattle.fv_eval_lookup.specs.Parameters.{name_of}
-use Rattle.fv_eval_lookup.proofs.Binders.{no_name}
-use Rattle.fv_eval_lookup.proofs.parameter_names.named.Goals as goal
+use Rattle.fv_eval_scopes.specs.Parameters.{name_of}
+use Rattle.fv_eval_scopes.proofs.lemmas.Binders.{no_name}
+use Rattle.fv_eval_scopes.proofs.parameter_names.named.Goals as goal
 
 pub returns-in_default : goal.returns-in_default
 returns-in_default c =

@@ -5,7 +5,7 @@ ghost use Rattle.fv_parse.specs.headline.Trees.{text_of};
 ghost use Rattle.fv_parse.specs.Trees.{first_named, size_of, tree_in};
 ghost use Rattle.fv_rules.specs.headline.Values.{Name};
 ghost use Rattle.fv_eval_scopes.specs.Shows.{parameters_in};
-ghost use Rattle.fv_eval_lookup.specs.Parameters.{ShowsName, name_of};
+ghost use Rattle.fv_eval_scopes.specs.Parameters.{ShowsName, name_of};
 
 use fv_parse::{Tree, TreeId, TreeNode, same_names};
 
@@ -14,11 +14,11 @@ pub fn canonical(tree: &Tree, n: u64) -> u64
     ensures text { text_of tree.now.tokens result ≡ text_of tree.now.tokens n }
     ensures first { first_named tree.now.tokens result ≡ result }
 {
-    same_names();
+    same_names(); // For the prover: the token with a token's canonical number has the same bytes.
     tree.name(n)
 }
 
-/// The canonical number of parameter `i` of an abstraction or a definition; `None` where there are not so many.
+/// The canonical number of parameter `i` of an abstraction or a definition; `None` where it has no parameter `i`.
 pub fn parameter(tree: &Tree, id: TreeId, i: u64) -> Option<u64>
     requires { id < size_of tree.now }
     // A definition has parameters where all its patterns are names.

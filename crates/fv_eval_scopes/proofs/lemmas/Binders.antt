@@ -13,7 +13,7 @@ use Rattle.fv_parse.specs.TreeNode.{TreeNode}
 use Rattle.fv_parse.specs.TreeNode.TheVariants as nodes
 use Rattle.fv_parse.specs.Arena.{tree_of, forest}
 use Rattle.fv_parse.specs.Trees.{Parsed, tree_in, node_tree}
-use Rattle.fv_eval_lookup.specs.Parameters.{ShowsName, name_of}
+use Rattle.fv_eval_scopes.specs.Parameters.{ShowsName, name_of}
 
 -- the pattern at a place, and the name at the same one
 abbrev pub NameAt : Lexed → Option Tree → Option Name → Type 0
