@@ -1,5 +1,5 @@
 -- What the code's types mean.
-use Rattle.std.specs.Prelude.{ℕ, ◌≤◌, List, [], ◌∷◌, Option, Some, None, Result, Ok, Err, option_map, option_and_then, option_copied}
+use Rattle.std.specs.Prelude.{ℕ, ◌≤◌, List, [], ◌∷◌, Option, Some, None, Result, Ok, Err, option_map, option_and_then, option_copied, codes}
 use Rattle.fv_base.specs.declared.limits.TheConstants.{MOST_VOICES, MOST_WORKERS}
 use Rattle.fv_top_words.specs.declared.cause.Cause.{Cause}
 use Rattle.fv_top_words.specs.declared.word.Kind.{Kind as Kinds}
@@ -17,7 +17,7 @@ use Rattle.fv_top_words.specs.declared.command.Job.{Job as Jobs}
 use Rattle.fv_top_words.specs.declared.command.Job.TheVariants as jobs
 use Rattle.fv_top_words.specs.headline.Pieces.{Piece}
 use Rattle.fv_top_words.specs.inner.Reader.{Kind, Bare, Ends, Apart, Joined, State, Any, Value, Names as NamesAlone, piece_of, state_after, pieces_from}
-use Rattle.fv_top_words.specs.headline.Texts.{Texts, take_piece, gathered}
+use Rattle.fv_top_words.specs.headline.Texts.{Options, Texts, take_piece, gathered}
 use Rattle.fv_top_words.specs.headline.Numbers.{Numbers}
 use Rattle.fv_top_words.specs.headline.Runs.{Settings, Run}
 use Rattle.fv_top_words.specs.Runs.{AreValid}
@@ -37,18 +37,18 @@ plain_in (plains.One a) = a.now ∷ []
 plain_in (plains.Two a b) = a.now ∷ b.now ∷ []
 plain_in (plains.Three a b c) = a.now ∷ b.now ∷ c.now ∷ []
 
+-- the options
+abbrev pub options_in : Given → Options
+options_in t =
+    (codes "--controls", option_copied t.controls) ∷ (codes "--block", option_copied t.block) ∷ (codes "--vector", option_copied t.vector)
+    ∷ (codes "--workers", option_copied t.workers) ∷ (codes "--bits", option_copied t.bits) ∷ (codes "--frames", option_copied t.frames)
+    ∷ (codes "--rate", option_copied t.rate) ∷ []
+
 -- the texts
 abbrev pub texts_in : Given → Texts
 texts_in t = record {
   plain = plain_in t.plain;
-  has_options = t.has_options;
-  controls = option_copied t.controls;
-  block = option_copied t.block;
-  vector = option_copied t.vector;
-  workers = option_copied t.workers;
-  bits = option_copied t.bits;
-  frames = option_copied t.frames;
-  rate = option_copied t.rate;
+  options = options_in t;
 }
 
 -- what may stand next

@@ -53,7 +53,7 @@ fn command_in<'a>(command: &str, texts: &Texts<'a>) -> Result<Job<'a>, Cause>
         "run" => Ok(Job::Run(run_of(texts)?)),
         "au" => Ok(Job::Run(by_kinds(run_of(texts)?))),
         "rack" => Ok(Job::Run(of_jobs(run_of(texts)?))),
-        _ if texts.has_options => Err(Cause::Form),
+        _ if texts.has_options() => Err(Cause::Form),
         "check" => check_of(&texts.plain),
         "make" => make_of(&texts.plain),
         _ => Err(Cause::Form),

@@ -2,7 +2,7 @@
 
 ghost use Rattle.std.specs.Prelude.{◌≡◌, option_copied};
 ghost use Rattle.fv_top_words.specs.headline.Numbers.{number_in, number_if, numbers_of};
-ghost use Rattle.fv_top_words.specs.Views.{texts_in, numbers_answered};
+ghost use Rattle.fv_top_words.specs.Views.{options_in, numbers_answered};
 
 use crate::cause::Cause;
 use crate::texts::Texts;
@@ -27,7 +27,7 @@ pub struct Numbers {
 
 /// The numbers that the texts of the options spell, if each spells one.
 pub fn numbers_of(texts: &Texts<'_>) -> Result<Numbers, Cause>
-    ensures { numbers_answered result ≡ numbers_of (texts_in texts.now) }
+    ensures { numbers_answered result ≡ numbers_of (options_in texts.now) }
 {
     Ok(Numbers {
         block: number_if(texts.block)?,

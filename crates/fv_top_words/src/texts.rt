@@ -1,9 +1,12 @@
 // The plain words and the values of the options, as they are spelled.
 
-ghost use Rattle.std.specs.Prelude.{◌≡◌, map, string_bytes, option_map, option_copied};
+ghost use Rattle.std.specs.Prelude.{◌≡◌, [], map, string_bytes, is_some, option_map, option_copied};
+ghost use Rattle.std.specs.List.{list_any};
 ghost use Rattle.fv_top_words.specs.inner.Reader.{Any as any_word};
-ghost use Rattle.fv_top_words.specs.headline.Texts.{add, put, row, once, texts_of, no_texts};
-ghost use Rattle.fv_top_words.specs.Views.{texts_in, read_in, read_more};
+ghost use Rattle.fv_top_words.specs.headline.Pieces.{Given};
+ghost use Rattle.fv_top_words.specs.headline.Texts.{add, take_piece, texts_of, no_options};
+ghost use Rattle.fv_top_words.specs.inner.Reader.{once};
+ghost use Rattle.fv_top_words.specs.Views.{texts_in, options_in, read_in, read_more};
 
 use crate::word::{Kind, kind_of};
 
@@ -21,8 +24,6 @@ pub enum Plain<'a> {
 pub struct Texts<'a> {
     /// The words that are no options.
     pub plain: Plain<'a>,
-    /// Whether an option is given.
-    pub has_options: bool,
     /// The value of the option for the control script.
     pub controls: Option<&'a str>,
     /// The value of the option for the most frames of a block.
@@ -72,11 +73,10 @@ pub fn texts_of(words: &[String]) -> Option<Texts<'_>>
 }
 
 fn no_texts<'a>() -> Texts<'a>
-    ensures { texts_in result ≡ no_texts }
+    ensures { texts_in result ≡ record { plain = []; options = no_options } }
 {
     Texts {
         plain: Plain::None,
-        has_options: false,
         controls: None,
         block: None,
         vector: None,
@@ -145,20 +145,22 @@ impl<'a> Texts<'a> {
         Some(Texts { plain, ..self })
     }
 
-    // With an option more.
-    fn put(self, name: &str, value: &'a str) -> Option<Texts<'a>>
-        ensures { option_map texts_in result ≡ put name.now value.now (texts_in self.entry) }
+    /// Whether an option is given.
+    pub fn has_options(&self) -> bool
+        ensures { result ≡ list_any (λ o. is_some o.1) (options_in self.now) }
     {
-        let texts = Texts {
-            has_options: true,
-            ..self
-        };
-        texts.row(name, value)
+        self.controls.is_some()
+            || self.block.is_some()
+            || self.vector.is_some()
+            || self.workers.is_some()
+            || self.bits.is_some()
+            || self.frames.is_some()
+            || self.rate.is_some()
     }
 
-    // The options, one row each.
-    fn row(mut self, name: &str, value: &'a str) -> Option<Texts<'a>>
-        ensures { option_map texts_in result ≡ row name.now value.now (texts_in self.entry) }
+    // With an option more. They have one row each.
+    fn put(mut self, name: &str, value: &'a str) -> Option<Texts<'a>>
+        ensures { option_map texts_in result ≡ take_piece (Given name.now value.now) (texts_in self.entry) }
     {
         match name {
             "--controls" => {

@@ -1,5 +1,6 @@
 -- What the words ask for (this project's profile).
-use Rattle.std.specs.Prelude.{ℕ, List, [], ◌∷◌, Option, Some, None, Result, Ok, Err, bytes_eq, codes, if◌then◌else◌}
+use Rattle.std.specs.Prelude.{ℕ, List, [], ◌∷◌, Option, Some, None, is_some, Result, Ok, Err, bytes_eq, codes, if◌then◌else◌}
+use Rattle.std.specs.List.{list_any}
 use Rattle.fv_base.specs.declared.limits.TheConstants.{MOST_MADE, MOST_VOICES, MOST_WORKERS}
 use Rattle.fv_top_words.specs.declared.cause.Cause.{Cause}
 use Rattle.fv_top_words.specs.declared.cause.Cause.TheVariants.{Form}
@@ -43,7 +44,7 @@ make_of _ = Err Form
 
 -- a command without options
 abbrev pub bare : Texts → Result Job Cause → Result Job Cause
-bare t answer = if t.has_options then Err Form else answer
+bare t answer = if list_any (λ o. is_some o.1) t.options then Err Form else answer
 
 -- what these texts ask of a command, if there are any: a run may be one whose files may be AU files, or one of the programs of a
 -- file of jobs, side by side

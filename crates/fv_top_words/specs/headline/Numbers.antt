@@ -1,9 +1,9 @@
 -- The numbers that words spell (this project's profile).
-use Rattle.std.specs.Prelude.{ℕ, List, Option, Some, None, Result, Ok, Err}
+use Rattle.std.specs.Prelude.{ℕ, List, Option, Some, None, Result, Ok, Err, codes}
 use Rattle.fv_base.specs.headline.Digits.{decimal_of}
 use Rattle.fv_top_words.specs.declared.cause.Cause.{Cause}
 use Rattle.fv_top_words.specs.declared.cause.Cause.TheVariants.{Number}
-use Rattle.fv_top_words.specs.headline.Texts.{Texts}
+use Rattle.fv_top_words.specs.headline.Texts.{Options, value_of}
 
 -- what follows from an answer
 infixl 10 ◌>>=◌
@@ -29,13 +29,13 @@ pub record Numbers : Type 0 where
   pub frames : Option ℕ
   pub rate : Option ℕ
 
--- the numbers that the texts spell, if each spells one
-abbrev pub numbers_of : Texts → Result Numbers Cause
-numbers_of t = do
-  block ← number_if t.block
-  vector ← number_if t.vector
-  workers ← number_if t.workers
-  bits ← number_if t.bits
-  frames ← number_if t.frames
-  rate ← number_if t.rate
+-- the numbers that the values of the options spell, if each spells one
+abbrev pub numbers_of : Options → Result Numbers Cause
+numbers_of os = do
+  block ← number_if (value_of (codes "--block") os)
+  vector ← number_if (value_of (codes "--vector") os)
+  workers ← number_if (value_of (codes "--workers") os)
+  bits ← number_if (value_of (codes "--bits") os)
+  frames ← number_if (value_of (codes "--frames") os)
+  rate ← number_if (value_of (codes "--rate") os)
   Ok (record { block = block; vector = vector; workers = workers; bits = bits; frames = frames; rate = rate })

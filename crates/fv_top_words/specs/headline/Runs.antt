@@ -10,7 +10,7 @@ use Rattle.fv_top_words.specs.declared.manner.ProgramKind.TheVariants as program
 use Rattle.fv_top_words.specs.declared.manner.InputKind.TheVariants as input
 use Rattle.fv_top_words.specs.declared.manner.OutputKind.{OutputKind}
 use Rattle.fv_top_words.specs.declared.manner.OutputKind.TheVariants as output
-use Rattle.fv_top_words.specs.headline.Texts.{Texts}
+use Rattle.fv_top_words.specs.headline.Texts.{Texts, value_of}
 use Rattle.fv_top_words.specs.headline.Numbers.{◌>>=◌, Numbers, numbers_of}
 
 -- a number of an option, if it is given, in its range
@@ -122,9 +122,9 @@ run_with program input output controls s =
 -- the run that PROGRAM INPUT OUTPUT and options ask for
 abbrev pub run_named : List (List ℕ) → Texts → Result Run Cause
 run_named (program ∷ input ∷ output ∷ []) t = do
-  numbers ← numbers_of t
+  numbers ← numbers_of t.options
   settings ← settings_of numbers
-  run_with program input output t.controls settings
+  run_with program input output (value_of (codes "--controls") t.options) settings
 run_named _ t = Err Form
 
 -- the run that its texts ask for, or the first cause to refuse them

@@ -69,3 +69,10 @@ with_piece (Some p) ps = p ∷ ps
 abbrev pub pieces_from : State → List (List ℕ) → Option (List Piece)
 pieces_from s [] = pieces_so_far s
 pieces_from s (w ∷ ws) = option_map (with_piece (piece_of s w)) (pieces_from (state_after s w) ws)
+
+-- ---- one option
+
+-- an option is given once
+abbrev pub once : Option (List ℕ) → (value : List ℕ) → Option (Option (List ℕ))
+once None value = Some (Some value)
+once (Some v) value = None

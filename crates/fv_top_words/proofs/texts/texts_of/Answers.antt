@@ -1,7 +1,7 @@
-use Rattle.std.proofs.Common.{List, Option, None, map, ◌∙◌, ap, add-one}
+use Rattle.std.proofs.Common.{[], Option, None, map, ◌∙◌, ap, add-one}
 use Rattle.std.specs.Prelude.{option_map, option_and_then, string_bytes}
 use Rattle.fv_top_words.specs.declared.texts.Texts.{Texts}
-use Rattle.fv_top_words.specs.headline.Texts.{Texts as Found, no_texts, gathered}
+use Rattle.fv_top_words.specs.headline.Texts.{Texts as Found, no_options, gathered}
 use Rattle.fv_top_words.specs.inner.Reader.{Any, pieces_from}
 use Rattle.fv_top_words.specs.Views.{read_in, texts_in}
 use Rattle.fv_top_words.proofs.Cutting.{cut_is}
@@ -11,7 +11,7 @@ use Rattle.fv_top_words.proofs.texts.texts_of.Goals as goal
 pub loop-word-init : goal.loop-word-init
 loop-word-init c =
     ap (λ (t : Found). option_and_then (gathered t) (pieces_from Any (map string_bytes c.args.words.now))) c.no_texts.ensures
-    ∙ ap (option_and_then (gathered no_texts)) (cut_is None (map string_bytes c.args.words.now))
+    ∙ ap (option_and_then (gathered (record { plain = []; options = no_options }))) (cut_is None (map string_bytes c.args.words.now))
 
 pub returns-in_err-reader : goal.returns-in_err-reader
 returns-in_err-reader c =
