@@ -1,5 +1,5 @@
 -- How a run over a tape stops, from what holds as it goes on.
-use Rattle.std.proofs.Common.{◌≡◌, ℕ, ◌*◌, List, [], length, ℤ, Option, refl, ap, ◌∙◌, arith}
+use Rattle.std.proofs.Common.{◌≡◌, ℕ, ◌*◌, List, [], length, ℤ, Option, refl, ap, subst, ◌∙◌, arith}
 use Rattle.fv_outside.specs.headline.Journal.{Told}
 use Rattle.fv_outside.specs.Acts.{Act, Beginning}
 use Rattle.fv_control.specs.declared.script.Change.{Change}
@@ -58,3 +58,8 @@ stops {b} {r} i outputs Stopped said act is stopped = record {
   is = is;
   stopped = stopped;
 }
+
+-- the same where the values with which the controls begin go by another name
+pub stopped_from : {e : EngineView} {s : RunSizes} {cs : List Change} {vs ws : List ℤ} {old new : Option Told}
+    {Stopped : (heard said : List ℤ) → Act → Type 0} → vs ≡ ws → HasStopped e s cs vs old new Stopped → HasStopped e s cs ws old new Stopped
+stopped_from {e} {s} {cs} {vs} {ws} {old} {new} {Stopped} same h = subst (λ (xs : List ℤ). HasStopped e s cs xs old new Stopped) same h

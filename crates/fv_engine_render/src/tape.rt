@@ -17,7 +17,7 @@ use crate::blocks::{PlanSizes, Ran, RunSizes};
 use crate::controls::{initial_of, spans_fit};
 use crate::engines::{engine, plan_of};
 use crate::source::{Source, compile};
-use crate::stream::play_tape;
+use crate::stream::{Course, play_tape};
 use fv_control::Change;
 use fv_diagram::{ControlInfo, answers_each, answers_wide};
 use fv_engine::Engine;
@@ -145,25 +145,16 @@ pub fn render_tape<R: Threads + Wait + Sync, G: Gate + Sync, W, T: Tape<W>>(
     answers_each();
     answers_wide();
     spans_fit(played.controls);
-    let plan = PlanSizes {
-        loops: ready.loops,
-        channels: played.inputs as usize,
-        outputs: played.outputs as usize,
-    };
-    let ran = play_tape(
-        rt,
-        alloc,
-        &mut ready.engine,
-        &plan,
-        sizes,
+    let course = Course {
+        sizes: *sizes,
+        plan: PlanSizes {
+            loops: ready.loops,
+            channels: played.inputs as usize,
+            outputs: played.outputs as usize,
+        },
         changes,
-        &mut ready.values,
-        &mut ready.heard,
-        &mut ready.said,
-        tape,
-        world,
-        gate,
-    );
+    };
+    let ran = play_tape(rt, alloc, &course, &mut ready, tape, world, gate);
     // Dropped by a call, so that the program has one drop function for all owners of it.
     drop(ready);
     ran

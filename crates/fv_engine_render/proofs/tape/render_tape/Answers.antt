@@ -7,7 +7,6 @@ use Rattle.fv_diagram.specs.declared.control.ControlInfo.{ControlInfo}
 use Rattle.fv_split_plan.specs.Code.{NamesHeld}
 use Rattle.fv_split_plan.specs.headline.View.{PlanView}
 use Rattle.fv_engine_render.specs.inner.Runs.{PlaysAll}
-use Rattle.fv_engine_render.specs.headline.Render.{initial_of}
 use Rattle.fv_engine_render.specs.Stops.{IsSetToPlay}
 use Rattle.fv_engine_render.proofs.Whole.{from_both}
 use Rattle.fv_engine_render.proofs.Early.{IsSet, answers, ended, outputs_are, ran_to}
@@ -28,8 +27,7 @@ pub play_tape-ran-requires-clause-controls : goal.play_tape-ran-requires-clause-
 play_tape-ran-requires-clause-controls g c κs within =
     let s = c.requires.ready.1.set in
     let cs = c.args.played.now.controls.now in
-    let n = length c.deref_mut.result.now in
-    let long : n ≡ length cs = ap length (c.deref_mut.ensures.value ∙ s.initial) ∙ length-map cs (λ (i : ControlInfo). i.init) in
+    let long : length c.args.ready.values.items ≡ length cs = ap length s.initial ∙ length-map cs (λ (i : ControlInfo). i.init) in
     λ k h. subst (λ m. k < m) (sym long) (s.planned.controls_there k (subst (λ (q : PlanView). NamesHeld q.held k) s.plan_is h))
 
 -- what is set for a diagram
@@ -50,13 +48,12 @@ returns-clause-samples g c = λ d h.
     let n = c.args.sizes.now.frames in
     let set = set_for g (goal.at.returns-clause-samples g c).After-play_tape-ran d h in
     let width = h.outputs_are ∙ sym h.set.of.width ∙ sym (outputs_are set) in
-    let initial : c.deref_mut.result.now ≡ initial_of cs = c.deref_mut.ensures.value ∙ h.set.initial in
     on_ok_weaker c.play_tape-ran.result (λ k. (
       k.0,
       k.2 ∙ ap (λ (w : ℕ). n * w) h.inputs_are,
       subst (λ (xs : List ℤ). g.T.Tape.Went c.args.tape.now c.play_tape-ran.new.tape c.args.world.now c.play_tape-ran.new.world k.0 xs)
           (answers set n k.0 k.1 k.3 (k.4 ∙ ap (λ (w : ℕ). n * w) width)
-          (subst (λ (vs : List ℤ). PlaysAll c.args.ready.engine (control_streams changes vs) n k.0 k.1) initial k.5)) k.6,
+          (subst (λ (vs : List ℤ). PlaysAll c.args.ready.engine (control_streams changes vs) n k.0 k.1) h.set.initial k.5)) k.6,
     )) c.play_tape-ran.ensures.samples
 
 pub returns-clause-ran : goal.returns-clause-ran
@@ -70,7 +67,6 @@ returns-clause-ran g c = λ d h.
 pub returns-clause-stops : goal.returns-clause-stops
 returns-clause-stops g c = λ d h.
     let told = g.G.Gate.told in
-    let initial : c.deref_mut.result.now ≡ initial_of c.args.played.now.controls.now = c.deref_mut.ensures.value ∙ h.set.initial in
     let set = set_for g (goal.at.returns-clause-stops g c).After-play_tape-ran d h in
     IfErr-weaker c.play_tape-ran.result _ _
-    (λ e k. ended set _ c.deref_mut.result.now (told c.args.gate.now) (told c.play_tape-ran.new.gate) initial k) c.play_tape-ran.ensures.stops
+    (λ e k. ended set _ c.args.ready.values.items (told c.args.gate.now) (told c.play_tape-ran.new.gate) h.set.initial k) c.play_tape-ran.ensures.stops
