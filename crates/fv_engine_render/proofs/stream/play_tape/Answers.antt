@@ -19,7 +19,8 @@ use Rattle.fv_engine_render.proofs.stream.play_tape.Goals as goal
 
 pub returns-in-Err-clause-stops : goal.returns-in-Err-clause-stops
 returns-in-Err-clause-stops g c =
-    stops_first c.args.ready.now.engine c.args.course.now.sizes c.args.course.now.changes.now c.args.ready.now.values.items (g.G.Gate.told c.args.gate.now) _ c.in-Err.ensures.err
+    stops_first c.args.ready.now.engine c.args.course.now.sizes c.args.course.now.changes.now c.args.ready.now.values.items
+    (g.G.Gate.told c.args.gate.now) _ c.in-Err.ensures.err
 
 pub playing-init : goal.playing-init
 playing-init g c =
@@ -61,8 +62,8 @@ slice_bounds-input-end g c =
 
 pub slice_bounds-input-end-in-playing : goal.slice_bounds-input-end-in-playing
 slice_bounds-input-end-in-playing g c =
-    sym (taken_long c.begin_block-behind.result.1 c.args.course.now.sizes.block c.args.course.now.plan.channels c.playing.heard c.begin_block-behind.ensures.short
-    c.playing.invariant.heard_room)
+    sym (taken_long c.begin_block-behind.result.1 c.args.course.now.sizes.block c.args.course.now.plan.channels c.playing.heard
+    c.begin_block-behind.ensures.short c.playing.invariant.heard_room)
 
 pub hear-requires-clause-room : goal.hear-requires-clause-room
 hear-requires-clause-room g c =
@@ -90,7 +91,8 @@ pub run_block-report-requires-clause-input : goal.run_block-report-requires-clau
 run_block-report-requires-clause-input g c κs within =
     let n = c.begin_block-behind.result.1 in
     c.hear.auto.to
-    ∙ taken_long n c.args.course.now.sizes.block c.args.course.now.plan.channels c.playing.heard c.begin_block-behind.ensures.short c.playing.invariant.heard_room
+    ∙ taken_long n c.args.course.now.sizes.block c.args.course.now.plan.channels c.playing.heard c.begin_block-behind.ensures.short
+    c.playing.invariant.heard_room
     ∙ ap (λ (k : ℕ). n * k) (c.requires.plan.channels ∙ sym (ap (λ (v : EngineView). v.channels) c.playing.invariant.streamed.same))
 
 pub run_block-report-requires-clause-output : goal.run_block-report-requires-clause-output
