@@ -358,6 +358,7 @@ UNSUPPORTED = {
     "route": "There is no route: order streams with _ , ! and <:.",
     "float": "All numbers are whole: leave float out, and multiply before you divide.",
 }
+OURS = {"sin": "os_sin", "cos": "os_cos", "exp": "dy_exp2", "exp10": "dy_exp2", "pow": "dy_exp2", "log": "dy_log2", "log10": "dy_log2"}
 REALS = "sin cos tan asin acos atan atan2 exp exp10 log log10 pow sqrt fmod remainder floor ceil rint".split()
 
 
@@ -398,6 +399,8 @@ def syntax(reading, line, column):
 
 
 def unsupported(reading, word):
+    if word in OURS:
+        return f"All numbers are whole, and there is no {word}: take {OURS[word]} of the library here, which faustvec-link (bin/link) adds, or a table."
     if word in REALS:
         return f"All numbers are whole, and there is no {word}: take a table, a polynomial, or a resonator that is struck."
     return UNSUPPORTED.get(word, f"{word} is not in the integer part of Faust: leave it out, or write it by other forms.")
