@@ -384,6 +384,7 @@ SMOOTHERS = [
     ),
     arrives(480, [32767, -32768, 1, 0, -1], 12000),
     arrives(20000, [300], 160000),
+    arrives(20000, [4, 0, -4], 60000),
     Row("co_smooth", "63 % of the way after n frames", "co_smooth(480)", [step(1000)], judge=third_ways(480)),
     Row(
         "co_lag",

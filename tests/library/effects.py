@@ -373,25 +373,28 @@ def bandpass_gain(f, q):
     return gain
 
 
-def wah(level, frequency, low, high, q):
-    """A square wave, whose loudness is constant, comes out as the bandpass at the frequency of its loudness has it."""
-    sound = [level if time * 2 * frequency // RATE % 2 == 0 else -level for time in range(24000)]
+def wah(level, frequency, low, high, q, before=0):
+    """A square wave, whose loudness is constant after so many frames at full scale, comes out as the bandpass at the frequency of its
+    loudness has it: after a tenth of a second eight times, where it was louder."""
+    levels = [32767] * before + [level] * (48000 if before else 24000)
+    sound = [level if time * 2 * frequency // RATE % 2 == 0 else -level for time, level in enumerate(levels)]
     ideal = bandpass_gain(low + (high - low) * level / ONE, q / 256)
 
     def judge(outputs):
         for harmonic in (1, 3, 5):
-            given, got = (amplitude(channel[14400:], harmonic * frequency) for channel in (sound, outputs[0]))
+            given, got = (amplitude(channel[-9600:], harmonic * frequency) for channel in (sound, outputs[0]))
             right = abs(ideal(harmonic * frequency))
             if abs(decibels(got / given) - decibels(right)) > 0.3:
                 return f"{decibels(got / given):.2f} dB at {harmonic * frequency} Hz, where {decibels(right):.2f} dB is ideal"
         return None
 
-    what = f"at a level of {level} the ideal bandpass, within 0.3 dB"
+    what = f"at a level of {level} the ideal bandpass, within 0.3 dB" + (", also after a louder one" if before else "")
     return Row("ef_wah", what, f"ef_wah({low}, {high}, {q}, 48000)", [sound], judge=judge)
 
 
 WAHS = [
     *(wah(level, 400, 300, 2500, 1280) for level in (32767, 16000, 4000)),
+    wah(4000, 400, 300, 2500, 1280, 4800),
     Row(
         "ef_wah",
         "full scale does not wrap, and the tail comes to 0",

@@ -3,7 +3,7 @@ import cmath
 import math
 
 from rows import FULL, RATE, Row, amplitude, cents, decibels, first_difference, impulse, mean, rms, square, wrap
-from rows import every, near, pitched, responds, settled, within, without_dc
+from rows import every, near, pitched, responds, settled, silent, within, without_dc
 
 TURN = 2**32
 STEP = 39370534  # 440 hertz at 48000 frames a second, exactly 39370533.546
@@ -382,6 +382,8 @@ ROWS = [
         )
         for density in (0, 500, generator(3)[1] + 32768, generator(3)[1] + 32769, 65536)
     ),
+    # Its noise is -32768 once in 65536 frames or so.
+    Row("no_sparse", "0 in 65536 frames is silence for long", "no_sparse(0)", frames=300000, judge=silent(0)),
     *(
         Row(
             "no_lfnoise0", f"a new level each turn, step {step}",
