@@ -370,7 +370,7 @@ def meaning(reading):
     """One sentence on what a refusal means and what usually cures it."""
     refused = reading.refused
     number, fields = refused.number, refused.fields
-    special = {6: unclosed, 9: syntax, 10: unsupported, 14: missing, 16: arity, 17: missing, 22: applied, 24: clash, 29: channels}
+    special = {6: unclosed, 7: real, 9: syntax, 10: unsupported, 14: missing, 16: arity, 17: missing, 22: applied, 24: clash, 29: channels}
     if number in special:
         return special[number](reading, *fields)
     return TABLES[fields[0]] if number == 41 else MEANINGS[number].format(*fields)
@@ -379,6 +379,12 @@ def meaning(reading):
 def unclosed(reading, line, column):
     what, end = ("string", '"') if reading.source.lines[line - 1][column - 1] == '"' else ("comment", "*/")
     return f"The {what} that begins here never ends: put {end} where it is to end."
+
+
+def real(reading, line, column):
+    if re.search(r"\b(hslider|vslider|nentry)\s*\([^()]*$", reading.source.lines[line - 1][: column - 1]):
+        return 'All numbers are whole, those of a control too: a gain of 0 to 1 is _ * hslider("gain", 128, 0, 256, 1) / 256.'
+    return MEANINGS[7]
 
 
 def syntax(reading, line, column):
