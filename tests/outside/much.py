@@ -168,7 +168,7 @@ def sounds():
         ("256 streams by 16 workers", "process = par(i,256,+ ~ mem);", wave(256, 16, 5_120_000, bytes(5_120_000)), None, ["--workers=16"]),
         ("a minute of mono, a frame a block", wire, wave(1, 16, len(minute), minute), None, ["--block=1"]),
         ("two echoes, a frame a block, by 16 workers", echoes, wave(2, 16, 88_204, bytes(88_204)), None, ["--block=1", "--workers=16"]),
-        ("16 rows of 4,000 loops by 16 workers", "\n%%\n".join([row] * 16), b"", None, ["--frames=4096", "--block=4096", "--workers=16"]),
+        ("16 rows of 4,000 loops by 16 workers", "\n%%\n".join([row] * 16), b"", None, ["--frames=2048", "--block=2048", "--workers=16"]),
         ("a head that states 4 GB of mono", wire, wave(1, 16, 2**32 - 39), None, []),
         ("a head that states 4 GB of 256 channels", "process = par(i,256,_);", wave(256, 32, 2**32 - 1024), None, []),
         ("a head that states 4 GB, 8 bits to 24", wire, wave(1, 8, 2**31, b"\1\2\3"), None, ["--bits=16"]),
