@@ -69,8 +69,9 @@ PROGRAMS = [
     ends(3, "refused 23 EvalBudget", "f(n,d) = f(n+outputs(d(1)),d); process = f(0,par(i,4000,_));", CHECK),
     ends(3, "refused 23 EvalBudget", 'f(n) = f(n+outputs(button("' + "a" * 30_000 + '"))); process = f(0);', CHECK),
     ends(3, "refused 23 EvalBudget", "f(0,d) = 1; f(n,d) = f((n:d),d); process = f(1,(seq(i,7000,abs)));", CHECK),
-    # An evaluation that would keep more than it may wants memory, however much there is.
-    ends(5, "refused 40 NoMemory", "f(x,y,z) = f; process = f;", CHECK),
+    # However many parameters an abstraction has, to bind them costs little.
+    ends(3, "refused 23 EvalBudget", "f(x,y,z) = f; process = f;", CHECK),
+    ends(3, "refused 23 EvalBudget", "mix(a,b,c,d,e,f,g) = mix(a); process = mix;", CHECK),
 ]
 
 CONTROLS = [
