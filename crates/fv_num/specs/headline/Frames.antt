@@ -1,5 +1,5 @@
 -- Frames and streams of numbers.
-use Rattle.std.specs.Prelude.{ℕ, zero, suc, ◌+◌, ◌-◌, ◌*◌, List, [], map, flat_map, get_or, ℤ, pos, negsuc, if◌then◌else◌, nat_le}
+use Rattle.std.specs.Prelude.{ℕ, zero, suc, ◌+◌, ◌-◌, ◌*◌, min, List, [], map, flat_map, get_or, ℤ, pos, negsuc, if◌then◌else◌, nat_le}
 pub use Rattle.fv_base.specs.headline.Lists.{table}
 use Rattle.fv_num.specs.headline.Words.{argument}
 
@@ -33,6 +33,11 @@ prefixed x y (suc t) = y t
 abbrev pub back : Stream → ℕ → ℤ → ℤ
 back x t (pos d) = if nat_le d t then x (t - d) else pos 0
 back x t (negsuc d) = pos 0
+
+-- how far back a number says, from 0 to the greatest
+abbrev pub back_by : (greatest : ℕ) → ℤ → ℕ
+back_by greatest (pos d) = min d greatest
+back_by greatest (negsuc d) = 0
 
 -- the frame that the wires carry at time t, where wire w carries the stream v w
 abbrev pub carried : (ℕ → Stream) → List ℕ → ℕ → Frame

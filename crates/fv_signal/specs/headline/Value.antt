@@ -1,8 +1,9 @@
 -- The values of a graph of signals (this project's profile).
-use Rattle.std.specs.Prelude.{◌≡◌, ℕ, ◌<◌, ◌≤◌, List, [], length, take, All, min, ℤ, pos, negsuc, slice_index_or, FitsSigned}
+use Rattle.std.specs.Prelude.{◌≡◌, ℕ, ◌<◌, ◌≤◌, List, [], length, take, All, ℤ, pos, slice_index_or, FitsSigned}
 use Rattle.std.specs.Int.{w32}
 use Rattle.fv_num.specs.headline.Words.{argument, apply_of, inputs_of}
 use Rattle.fv_num.specs.headline.Frames.{Frame, Stream, column, delayed, back, carried}
+pub use Rattle.fv_num.specs.headline.Frames.{back_by}
 use Rattle.fv_num.specs.headline.Tables.{read_at, written_at}
 use Rattle.fv_num.specs.headline.Valuation.{Meaning, valuation}
 use Rattle.fv_signal.specs.declared.signal.Signal.{Signal}
@@ -26,11 +27,6 @@ definition g group i = slice_index_or (members g group) i 0
 -- the numbers of a table, none where it is not there
 abbrev pub table_of : Graph → (table : ℕ) → List ℤ
 table_of g table = slice_index_or g.tables table []
-
--- how far back a number says, from 0 to the greatest
-abbrev pub back_by : (greatest : ℕ) → ℤ → ℕ
-back_by greatest (pos d) = min d greatest
-back_by greatest (negsuc d) = 0
 
 -- what a signal gives at time t on the frames X under the controls c, where signal s has the stream v s
 abbrev pub signal_at : Graph → (X : List Frame) → (c : ℕ → Stream) → Meaning Signal
