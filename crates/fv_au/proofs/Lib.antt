@@ -4,4 +4,3 @@ pub mod Again
 pub mod Fronts
 pub mod OutcomeLaws
 pub mod KeptBytes
-pub mod Samples

@@ -7,7 +7,7 @@ pub fn cuts_are_fewest()
     ensures { CutsAreFewest }
 {}
 
-/// A diagram is fixed just where it has no inputs, no free slot, no control and no table primitive.
+/// A diagram is fixed exactly where it has no inputs, no free slot, no control and no table primitive.
 pub fn fixed_depends_on_nothing()
     ensures { FixedDependsOnNothing }
 {}

@@ -17,7 +17,7 @@ pub fn one_outcome()
     stops_at_the_place();
 }
 
-/// Two tokens have one canonical number just where they have the same bytes, and it is the number of a token with these bytes.
+/// Two tokens have one canonical number exactly where they have the same bytes, and it is the number of a token with these bytes.
 pub fn same_names()
     ensures same { SameNumbersSameBytes }
     ensures of { NumbersAreOfTheBytes }

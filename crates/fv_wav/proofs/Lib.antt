@@ -4,6 +4,5 @@ pub mod ChunkKinds
 pub mod Walks
 pub mod ReadBack
 pub mod Following
-pub mod SampleLemmas
 pub mod Outcomes
 pub mod Endings

@@ -9,7 +9,13 @@ use borrow.Rule.Slice.PartMut.{put_mid}
 use Rattle.fv_wav.specs.headline.Reading.{Rest, rest_of, past, next}
 use Rattle.fv_wav.specs.declared.refusal.WaveRefusal.{WaveRefusal}
 use Rattle.fv_wav.specs.declared.refusal.WaveRefusal.TheVariants.{WaveTruncated}
-use Rattle.fv_wav.proofs.SampleLemmas.{next_err}
+
+-- when the next bytes are not there
+next_err : (n : ℕ) (r : Rest) (e : WaveRefusal) → next n r ≡ Err e → (length r.bytes < n) × (e ≡ WaveTruncated (r.place + length r.bytes))
+unfolding next past
+next_err n r e h =
+    ⊎_elim (λ (w : length r.bytes < n). let t = lt-leb n (length r.bytes) w in let k = rw t at h in (w, cc))
+    (λ (w : n ≤ length r.bytes). let t = le-leb n (length r.bytes) w in let k = rw t at h in absurd (cc)) (cases_lt (length r.bytes) n)
 
 -- the last part of a buffer was written
 pub last_part : (n k : ℕ) (xs ys : List ℕ) → n ≤ length xs → k ≡ length xs - n → put_mid n k xs ys ≡ take n xs ++ ys

@@ -1,15 +1,15 @@
-use Rattle.std.proofs.Common.{◌≡◌, ◌*◌, ◌/◌, length, ℕ, ap, arith}
-use Rattle.fv_wav.proofs.SampleLemmas.{read_whole, read_short}
+use Rattle.std.proofs.Common.{arith}
+use Rattle.fv_wav.specs.declared.refusal.WaveRefusal.TheVariants.{WaveTruncated}
+use Rattle.fv_wav.proofs.lemmas.FramesRead.{all_read, ended_within}
 use Rattle.fv_wav.proofs.frames.read_frames.Goals as goal
 
 pub returns-then-n-count-clause-err : goal.returns-then-n-count-clause-err
 returns-then-n-count-clause-err g c =
-    let size = c.args.head.now.bits / 8 in
-    let wide : length c.read_samples.new.to * size ≡ length c.args.to.now * size = ap (λ (k : ℕ). k * size) c.read_samples.auto.to in
-    read_short c.args.head.now.bits c.in_ok-n.n c.args.place c.read_samples.new.to _ _ c.in_ok-n.ensures.read (omega (arith, wide))
+    let r = c.in_ok-n.ensures.read in
+    record {
+      some = record { bytes = r.bytes; takes = r.takes };
+      cause = ended_within WaveTruncated c.args.place c.args.to.now r c.read_samples.auto.to (omega arith);
+    }
 
 pub returns-clause-ok : goal.returns-clause-ok
-returns-clause-ok g c =
-    let size = c.args.head.now.bits / 8 in
-    let wide : length c.read_samples.new.to * size ≡ length c.args.to.now * size = ap (λ (k : ℕ). k * size) c.read_samples.auto.to in
-    read_whole c.args.head.now.bits c.in_ok-n.n c.read_samples.new.to _ _ c.in_ok-n.ensures.read (omega (arith, c.in_ok-n.ensures.few, wide))
+returns-clause-ok g c = all_read c.args.to.now c.in_ok-n.ensures.read c.read_samples.auto.to c.in_ok-n.ensures.few (omega arith)
