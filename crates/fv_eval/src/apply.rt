@@ -15,7 +15,7 @@ use crate::machine::Machine;
 use crate::names::body_of;
 use fv_eval_lookup::Definitions;
 use fv_eval_patterns::Bindings;
-use fv_eval_scopes::{Ruled, Value, parameter, parameters};
+use fv_eval_scopes::{EnvId, Ruled, Value, parameter, parameters};
 use fv_parse::{Tree, TreeId, TreeNode};
 use fv_rules::EvalRefusal;
 use std::alloc::AllocError;
@@ -27,7 +27,7 @@ impl Machine {
         text: &Definitions,
         application: TreeId,
         function: Value,
-        env: u64,
+        env: EnvId,
         done: Vec<Value>,
     ) -> Result<Focus, EvalRefusal>
         requires application { application < size_of text.now }
@@ -132,7 +132,7 @@ impl Machine {
         tree: &Tree,
         node: TreeId,
         bound: u64,
-        env: u64,
+        env: EnvId,
         argument: Value,
     ) -> Result<Option<Value>, AllocError>
         requires { IsShown (world tree.now self.old) (Value.Abstraction node bound env) }
@@ -227,7 +227,7 @@ impl Machine {
         text: &Definitions,
         application: TreeId,
         choice: Option<(TreeId, Bindings)>,
-        env: u64,
+        env: EnvId,
         arguments: Vec<Value>,
         at: usize,
     ) -> Result<Focus, EvalRefusal>
@@ -251,7 +251,7 @@ impl Machine {
         arguments: Vec<Value>,
         at: usize,
         body: TreeId,
-        env: u64,
+        env: EnvId,
     ) -> Result<Focus, EvalRefusal>
         requires { at < length arguments.items }
         ensures { (p : Parsed) (s : ℕ) (f ys x : Spelled) (E : Env) (a : Meant) (more : List Meant) → ShowsTree (world p self.old) application (Apply s f ys)

@@ -21,7 +21,7 @@ use crate::continuation::{Continuation, Focus, ForDiagram, ForValue};
 use crate::machine::Machine;
 use fv_diagram::DiagramId;
 use fv_eval_lookup::Definitions;
-use fv_eval_scopes::Value;
+use fv_eval_scopes::{EnvId, Value};
 use fv_parse::{TreeId, TreeNode};
 use fv_parse_grammar::Side;
 use fv_rules::EvalRefusal;
@@ -148,7 +148,7 @@ impl Machine {
         &mut self,
         text: &Definitions,
         binary: TreeId,
-        env: u64,
+        env: EnvId,
         left: DiagramId,
     ) -> Result<Focus, EvalRefusal>
         requires inside { binary < size_of text.now }

@@ -18,7 +18,7 @@ use crate::machine::Machine;
 use crate::turn::not_a_diagram;
 use fv_diagram::{Node, Prim};
 use fv_eval_lookup::Definitions;
-use fv_eval_scopes::{Ruled, Value, canonical};
+use fv_eval_scopes::{EnvId, Ruled, Value, canonical};
 use fv_parse::{TreeId, TreeNode};
 use fv_parse_grammar::Literal;
 use fv_rules::{EvalRefusal, literal, literal_value, negative_literal};
@@ -53,7 +53,12 @@ impl Machine {
     }
 
     // Visits a part, and has this wait for its diagram.
-    fn draw(&mut self, continuation: ForDiagram, id: TreeId, env: u64) -> Result<Focus, EvalRefusal>
+    fn draw(
+        &mut self,
+        continuation: ForDiagram,
+        id: TreeId,
+        env: EnvId,
+    ) -> Result<Focus, EvalRefusal>
         ensures { (p : Parsed) (F : Waiting) (x : Tree) (E : Env) → ShowsContinuation (world p self.old) (Continuation.Drawn continuation) F
             → ShowsTree (world p self.old) id x → ShowsEnv (world p self.old) env E
             → Steps p self.old self.new result (λ Fs s. Running (Visit x E) (F ∷ Fs) s) }
@@ -62,7 +67,7 @@ impl Machine {
     }
 
     // Calls a name, to be negated.
-    fn negated(&mut self, name: u64, env: u64) -> Result<Focus, EvalRefusal>
+    fn negated(&mut self, name: u64, env: EnvId) -> Result<Focus, EvalRefusal>
         ensures { (p : Parsed) (F : Waiting) (x : Name) (E : Env) → ShowsContinuation (world p self.old) (Continuation.Drawn ForDiagram.Negated) F
             → IsNamed (world p self.old) name x → ShowsEnv (world p self.old) env E
             → Steps p self.old self.new result (λ Fs s. Running (Call x E) (F ∷ Fs) s) }
@@ -71,7 +76,7 @@ impl Machine {
     }
 
     // Visits the first parameter of a slider.
-    fn slider(&mut self, text: &Definitions, id: TreeId, env: u64) -> Result<Focus, EvalRefusal>
+    fn slider(&mut self, text: &Definitions, id: TreeId, env: EnvId) -> Result<Focus, EvalRefusal>
         requires inside { id < size_of text.now }
         requires form { IsSlider (tree_in text.now id) }
         ensures { (k : SliderKind) (label : List ℕ) (E : Env) (xs : List Tree) → ShowsSlider (world text.now self.old) id env 0 k label E xs
@@ -82,7 +87,12 @@ impl Machine {
     }
 
     /// Visits a tree: does its rule, up to the next visit or value.
-    pub fn visit(&mut self, text: &Definitions, id: TreeId, env: u64) -> Result<Focus, EvalRefusal>
+    pub fn visit(
+        &mut self,
+        text: &Definitions,
+        id: TreeId,
+        env: EnvId,
+    ) -> Result<Focus, EvalRefusal>
         requires { id < size_of text.now }
         ensures { Begins text.now self.old self.new result env (tree_in text.now id) }
     {
@@ -127,7 +137,7 @@ impl Machine {
 }
 
 // An abstraction without names is its body.
-fn abstraction(id: TreeId, names: &[u64], body: TreeId, env: u64) -> Focus
+fn abstraction(id: TreeId, names: &[u64], body: TreeId, env: EnvId) -> Focus
     ensures bare { names.now ≡ [] → result ≡ Focus.Visit body env }
     ensures named { (names.now ≡ [] → ⊥) → result ≡ Focus.Give (Value.Abstraction id 0 env) }
 {
@@ -142,7 +152,7 @@ fn abstraction(id: TreeId, names: &[u64], body: TreeId, env: u64) -> Focus
 }
 
 // The rules of a `case`, which have taken no argument.
-fn case_rules(id: TreeId, env: u64) -> Focus
+fn case_rules(id: TreeId, env: EnvId) -> Focus
     ensures { result ≡ Focus.Give (Value.Rules (Ruled.Case id) env 0 0) }
 {
     Focus::Give(Value::Rules {

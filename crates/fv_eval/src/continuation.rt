@@ -3,7 +3,7 @@
 ghost use Rattle.std.specs.Prelude.{◌≡◌, ◌++◌, ◌∷◌, [], MatchOption, OnOk, OnErr};
 
 use fv_diagram::DiagramId;
-use fv_eval_scopes::Value;
+use fv_eval_scopes::{EnvId, Value};
 use fv_parse::TreeId;
 use fv_parse_grammar::{Operator, Side};
 use std::alloc::{AllocError, Global};
@@ -15,13 +15,13 @@ pub enum ForValue {
     /// An application, whose function comes next, and the environment of its arguments.
     Function {
         apply: TreeId,
-        env: u64,
+        env: EnvId,
     },
     /// An application, whose next argument comes: its function, its environment, and the arguments that are done.
     Argument {
         apply: TreeId,
         function: Value,
-        env: u64,
+        env: EnvId,
         done: Vec<Value>,
     },
     /// Arguments that an application has left, from this index on.
@@ -33,7 +33,7 @@ pub enum ForValue {
     /// A slider, whose next parameter comes: the environment, and the numbers that are done.
     Parameter {
         slider: TreeId,
-        env: u64,
+        env: EnvId,
         done: Vec<i32>,
     },
 }
@@ -44,7 +44,7 @@ pub enum ForDiagram {
     /// A node of two parts, whose left one comes.
     Left {
         binary: TreeId,
-        env: u64,
+        env: EnvId,
     },
     /// The right part comes, after the left one.
     Right {
@@ -71,12 +71,12 @@ pub enum ForDiagram {
     /// An iteration, whose count comes.
     Counting {
         iteration: TreeId,
-        env: u64,
+        env: EnvId,
     },
     /// An iteration, whose next body comes: how many are left after it, and those that are done.
     Body {
         iteration: TreeId,
-        env: u64,
+        env: EnvId,
         left: u64,
         done: Vec<DiagramId>,
     },
@@ -94,8 +94,8 @@ pub enum Continuation {
 /// What is done next. An environment is a number of `Scopes`, a name a canonical number.
 #[derive(Clone, Copy)]
 pub enum Focus {
-    Visit { id: TreeId, env: u64 },
-    Call { name: u64, env: u64 },
+    Visit { id: TreeId, env: EnvId },
+    Call { name: u64, env: EnvId },
     Give(Value),
     Done(Value),
 }

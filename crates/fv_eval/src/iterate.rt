@@ -21,7 +21,7 @@ use crate::continuation::{Continuation, Focus, ForDiagram};
 use crate::machine::Machine;
 use fv_diagram::{DiagramId, Node};
 use fv_eval_lookup::Definitions;
-use fv_eval_scopes::{Value, canonical};
+use fv_eval_scopes::{EnvId, Value, canonical};
 use fv_parse::{Tree, TreeId, TreeNode};
 use fv_rules::EvalRefusal;
 
@@ -31,7 +31,7 @@ impl Machine {
         &mut self,
         text: &Definitions,
         iteration: TreeId,
-        env: u64,
+        env: EnvId,
         diagram: DiagramId,
     ) -> Result<Focus, EvalRefusal>
         requires iteration { iteration < size_of text.now }
@@ -63,7 +63,7 @@ impl Machine {
         &mut self,
         text: &Definitions,
         iteration: TreeId,
-        env: u64,
+        env: EnvId,
         left: u64,
         done: Vec<DiagramId>,
     ) -> Result<Focus, EvalRefusal>

@@ -13,7 +13,7 @@ use crate::continuation::{Continuation, Continuations, Focus};
 use fv_eval_drawing::{Controls, Drawing, Labels};
 use fv_eval_lookup::{Definitions, Shortcuts};
 use fv_eval_patterns::Trials;
-use fv_eval_scopes::{Scopes, Value};
+use fv_eval_scopes::{EnvId, Scopes, Value};
 use fv_parse::TreeId;
 use fv_rules::{EvalRefusal, steps_mean, too_many_to_count};
 use std::alloc::Global;
@@ -57,7 +57,7 @@ impl Machine {
         &mut self,
         continuation: Continuation,
         id: TreeId,
-        env: u64,
+        env: EnvId,
     ) -> Result<Focus, EvalRefusal>
         ensures { (p : Parsed) (F : Waiting) (x : Tree) (E : Env) → ShowsContinuation (world p self.old) continuation F → ShowsTree (world p self.old) id x
             → ShowsEnv (world p self.old) env E
@@ -72,7 +72,7 @@ impl Machine {
         &mut self,
         continuation: Continuation,
         name: u64,
-        env: u64,
+        env: EnvId,
     ) -> Result<Focus, EvalRefusal>
         ensures { (p : Parsed) (F : Waiting) (x : Name) (E : Env) → ShowsContinuation (world p self.old) continuation F → IsNamed (world p self.old) name x
             → ShowsEnv (world p self.old) env E
@@ -83,7 +83,12 @@ impl Machine {
     }
 
     /// Visits a tree among definitions.
-    pub fn visit_among(&mut self, list: TreeId, id: TreeId, env: u64) -> Result<Focus, EvalRefusal>
+    pub fn visit_among(
+        &mut self,
+        list: TreeId,
+        id: TreeId,
+        env: EnvId,
+    ) -> Result<Focus, EvalRefusal>
         ensures { (p : Parsed) (ds x : Tree) (E : Env) → ShowsTree (world p self.old) list ds → ShowsTree (world p self.old) id x
             → ShowsEnv (world p self.old) env E
             → Steps p self.old self.new result (λ Fs s. Running (Visit x (Scope ds E)) Fs s) }

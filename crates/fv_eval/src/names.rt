@@ -13,7 +13,7 @@ use crate::machine::Machine;
 use fv_base::Word;
 use fv_diagram::Node;
 use fv_eval_lookup::Definitions;
-use fv_eval_scopes::{Meaning, Value};
+use fv_eval_scopes::{EnvId, Meaning, Value};
 use fv_parse::{Tree, TreeId, TreeNode};
 use fv_rules::EvalRefusal;
 
@@ -32,7 +32,7 @@ pub fn body_of(tree: &Tree, id: TreeId) -> TreeId
 
 impl Machine {
     /// Gives or visits what a name stands for.
-    pub fn name(&mut self, text: &Definitions, name: u64, env: u64) -> Result<Focus, EvalRefusal>
+    pub fn name(&mut self, text: &Definitions, name: u64, env: EnvId) -> Result<Focus, EvalRefusal>
         ensures { (x : Name) (E : Env) → IsNamed (world text.now self.old) name x → ShowsEnv (world text.now self.old) env E
             → Steps text.now self.old self.new result (λ Fs s. begin_name x (lookup text.now.tokens E x) Fs s) }
     {

@@ -22,7 +22,7 @@ use crate::machine::Machine;
 use fv_diagram::{ControlKind, Label, Node};
 use fv_eval_drawing::Range;
 use fv_eval_lookup::Definitions;
-use fv_eval_scopes::Value;
+use fv_eval_scopes::{EnvId, Value};
 use fv_parse::{Tree, TreeId, TreeNode};
 use fv_parse_grammar::{Slider, Switch};
 use fv_rules::EvalRefusal;
@@ -119,7 +119,7 @@ impl Machine {
         &mut self,
         text: &Definitions,
         slider: TreeId,
-        env: u64,
+        env: EnvId,
         done: Vec<i32>,
     ) -> Result<Focus, EvalRefusal>
         requires slider { slider < size_of text.now }
@@ -184,7 +184,7 @@ impl Machine {
         &mut self,
         text: &Definitions,
         slider: TreeId,
-        env: u64,
+        env: EnvId,
         mut done: Vec<i32>,
         value: Value,
     ) -> Result<Focus, EvalRefusal>

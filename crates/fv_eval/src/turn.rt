@@ -19,7 +19,7 @@ use crate::machine::Machine;
 use crate::names::body_of;
 use fv_diagram::DiagramId;
 use fv_eval_lookup::Definitions;
-use fv_eval_scopes::{Ruled, Value, parameters};
+use fv_eval_scopes::{EnvId, Ruled, Value, parameters};
 use fv_parse::{Tree, TreeId};
 use fv_rules::{EvalRefusal, too_many_to_count};
 use std::alloc::AllocError;
@@ -63,8 +63,8 @@ impl Machine {
         node: TreeId,
         bound: u64,
         count: u64,
-        env: u64,
-    ) -> Result<u64, AllocError>
+        env: EnvId,
+    ) -> Result<EnvId, AllocError>
         ensures slots { IfOk result (λ e. (p : Parsed) → Slots p self.old self.new (count - bound)) }
         ensures env { IfOk result (λ e. (p : Parsed) (E : Env) → node < size_of p → count ≡ length (parameters_in p.tokens (tree_in p node))
             → ShowsEnv (world p self.old) env E

@@ -24,7 +24,7 @@ use fv_base::limits::VISIT_LIMIT;
 use fv_diagram::{DiagramId, Diagrams};
 use fv_eval_drawing::Controls;
 use fv_eval_lookup::Definitions;
-use fv_eval_scopes::{Value, canonical};
+use fv_eval_scopes::{EnvId, Value, canonical};
 use fv_parse::{Tree, TreeId, TreeNode};
 use fv_rules::{EvalRefusal, TableCause, evaluates_to_runnables, steps_mean};
 use std::alloc::{AllocError, Global};
@@ -96,7 +96,7 @@ fn call_process(machine: &mut Machine, tree: &Tree, name: u64) -> Result<Focus, 
     requires named { (text_of tree.now.tokens name ≡ codes "process") × (first_named tree.now.tokens name ≡ name) }
     ensures { IfOk result (λ f. Continues tree.now.tokens tree.now machine.new (Ok f) (meaning tree.now.tokens (first (program_of tree.now) start))) }
 {
-    let env = machine.scopes.open(tree.root(), 0)?;
+    let env = machine.scopes.open(tree.root(), EnvId::new(0))?;
     machine
         .continuations
         .push(Continuation::Drawn(ForDiagram::Finish))?;

@@ -2,6 +2,7 @@ pub mod Arounds
 pub mod Keyed
 pub mod Lookups
 pub mod Named
+pub mod Parameters
 pub mod Refused
 pub mod RuleNodes
 pub mod RulesChosen

@@ -25,7 +25,7 @@ use Rattle.fv_eval_lookup.proofs.RuleNodes.{IsNoFunction, AreOfName}
 use Rattle.fv_eval_lookup.specs.ByName.{is_called, defined_name, called, defined_in, AreDefined, AreIndexed}
 use Rattle.fv_eval_lookup.specs.Around.{HasNone}
 
--- ---- a tree is of a name just where its canonical number is that
+-- ---- a tree is of a name exactly where its canonical number is that
 
 same_bool : (a b : Bool) → (a ≡ true → b ≡ true) → (b ≡ true → a ≡ true) → a ≡ b
 same_bool true b f g = sym (f refl)

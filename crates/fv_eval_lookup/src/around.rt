@@ -10,7 +10,7 @@ ghost use Rattle.fv_eval_lookup.specs.declared.around.TheConstants.{NAME_BITS};
 ghost use Rattle.fv_eval_lookup.specs.Around.{AreAround, AreNested, IsNearest, IsNested, IsRoot};
 
 use crate::lookup::Definitions;
-use fv_eval_scopes::{STRIDE, Scope, Scopes, Tries, outer_of};
+use fv_eval_scopes::{EnvId, STRIDE, Scope, Scopes, Tries, outer_of};
 use fv_parse::TreeId;
 use std::alloc::{AllocError, Global};
 
@@ -49,13 +49,14 @@ impl Around {
     }
 
     // The root of the trie of an environment, where it is known.
-    fn root(&self, env: u64) -> Option<u64>
+    fn root(&self, env: EnvId) -> Option<u64>
         ensures { (p : Parsed) (scopes : List AScope) → AreAround p scopes self.now → IfSome result (IsRoot p scopes self.now.tries env) }
     {
-        if env == 0 {
+        let number = env.number();
+        if number == 0 {
             return Some(0);
         }
-        self.root_at((env - 1) / STRIDE)
+        self.root_at((number - 1) / STRIDE)
     }
 
     // One of the roots.
@@ -66,7 +67,7 @@ impl Around {
     }
 
     /// The nearest list around an environment that has a definition of a name, or 0, where this is known.
-    pub(crate) fn nearest(&self, name: u64, env: u64) -> Option<u64>
+    pub(crate) fn nearest(&self, name: u64, env: EnvId) -> Option<u64>
         ensures { (p : Parsed) (scopes : List AScope) → AreAround p scopes self.now → IfSome result (IsNearest p scopes name env) }
     {
         let root = self.root(env)?;
@@ -98,8 +99,7 @@ impl Around {
         let around = self.root(outer_of(scope))?;
         match scope {
             Scope::Bound { .. } => Some(around),
-            // It is never passed at once, so that each root will do.
-            Scope::Slots { .. } => Some(around),
+            Scope::Slots { .. } => Some(around), // It is never passed at once, so that each root will do.
             Scope::Definitions { list, .. } => match self.nest(definitions, *list, around) {
                 Ok(root) => Some(root),
                 Err(_) => None,

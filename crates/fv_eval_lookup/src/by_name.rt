@@ -103,8 +103,7 @@ fn definitions_of(alloc: Global, tree: &Tree, list: TreeId) -> Result<Vec<Define
     requires { list < size_of tree.now }
     ensures { IfOk result (λ v. AreDefined tree.now list v.items) }
 {
-    // For the prover: two names have one canonical number just where they have the same bytes.
-    same_names();
+    same_names(); // For the prover: two names have one canonical number exactly where they have the same bytes.
     let items = tree.items(list);
     let mut definitions = Vec::new(alloc);
     for id in items {

@@ -8,6 +8,7 @@ ghost use Rattle.fv_rules.specs.headline.Matching.{chosen};
 ghost use Rattle.fv_rules.specs.headline.Rules.{width};
 ghost use Rattle.fv_eval_scopes.specs.Shows.{World, IsInside, ShowsValues, case_in, rules_in};
 ghost use Rattle.fv_eval_scopes.specs.Memo.{Remembers, AddsIntegers};
+ghost use Rattle.fv_eval_patterns.specs.Loans.{loans_of};
 ghost use Rattle.fv_eval_patterns.specs.Patterns.{IsValid, with_diagrams};
 ghost use Rattle.fv_eval_patterns.specs.Trials.{Recalls};
 ghost use Rattle.fv_eval_lookup.specs.Chosen.{ShowsChoice, IsRuleAt, IsFirstRule, Chooses, nodes_of};
@@ -17,7 +18,7 @@ use crate::by_name::Defined;
 use crate::index::{left_by, next_left};
 use crate::lookup::Definitions;
 use fv_diagram::Diagrams;
-use fv_eval_patterns::{Bindings, Bits, Subjects, Trials};
+use fv_eval_patterns::{Bindings, Bits, Matching, Subjects, Trials};
 use fv_eval_scopes::{Numbers, Ruled, Value};
 use fv_parse::{Tree, TreeId, TreeNode};
 use std::alloc::{AllocError, Global};
@@ -188,7 +189,12 @@ impl Definitions<'_> {
             values: arguments,
         };
         let left = left_by(index, &subjects, diagrams, numbers)?;
-        let choice = first_match(&subjects, rules, &left, diagrams, numbers, trials)?;
+        let mut matching = Matching {
+            diagrams,
+            numbers,
+            trials,
+        };
+        let choice = first_match(&subjects, rules, &left, &mut matching)?;
         Ok(choice)
     }
 }
@@ -198,21 +204,20 @@ fn first_match(
     subjects: &Subjects,
     rules: Rules,
     left: &Option<Bits>,
-    diagrams: &mut Diagrams,
-    numbers: &mut Numbers,
-    trials: &mut Trials,
+    matching: &mut Matching,
 ) -> Result<Option<(TreeId, Bindings)>, AllocError>
     requires inside { All (λ id. id < size_of subjects.now.tree.now) (nodes_of rules) }
     requires left { Leaves (map (λ id. rule_of (tree_in subjects.now.tree.now id)) (nodes_of rules)) subjects.now.values.now
-        diagrams.old left.now }
-    requires valid { All (IsValid diagrams.old) subjects.now.values.now }
-    requires known { Remembers diagrams.old numbers.old }
-    requires recalls { Recalls subjects.now.tree.now diagrams.old trials.old }
-    ensures adds { AddsIntegers diagrams.old diagrams.new }
-    ensures known { Remembers diagrams.new numbers.new }
-    ensures recalls { Recalls subjects.now.tree.now diagrams.new trials.new }
+        matching.old.diagrams.now left.now }
+    requires valid { All (IsValid matching.old.diagrams.now) subjects.now.values.now }
+    requires known { Remembers matching.old.diagrams.now matching.old.numbers.now }
+    requires recalls { Recalls subjects.now.tree.now matching.old.diagrams.now matching.old.trials.now }
+    ensures adds { AddsIntegers matching.old.diagrams.now matching.new.diagrams.now }
+    ensures loans { loans_of matching.new ≡ loans_of matching.old }
+    ensures known { Remembers matching.new.diagrams.now matching.new.numbers.now }
+    ensures recalls { Recalls subjects.now.tree.now matching.new.diagrams.now matching.new.trials.now }
     ensures chosen { IfOk result
-        (Chooses subjects.now.tree.now (nodes_of rules.entry) subjects.now.values.now diagrams.old diagrams.new) }
+        (Chooses subjects.now.tree.now (nodes_of rules.entry) subjects.now.values.now matching.old.diagrams.now matching.new.diagrams.now) }
 {
     let end = rules.len() as u64;
     let mut at = next_left(left, 0, end);
@@ -220,7 +225,7 @@ fn first_match(
         let id = rules.node(at as usize);
         let rule = rule_at(subjects.tree, id);
         let mut list = Vec::new(subjects.alloc);
-        if subjects.match_all(rule.patterns, diagrams, numbers, trials, &mut list)? {
+        if subjects.match_all(rule.patterns, matching, &mut list)? {
             return Ok(Some((rule.body, Bindings::of(list))));
         }
         at = next_left(left, at + 1, end);

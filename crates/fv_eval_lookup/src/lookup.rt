@@ -20,7 +20,9 @@ use crate::around::Around;
 use crate::by_name::{ByName, Defined, by_name};
 use crate::index::RuleIndex;
 use crate::shortcuts::Shortcuts;
-use fv_eval_scopes::{Meaning, Ruled, Scope, Scopes, Value, outer_of, parameter};
+use fv_eval_scopes::{
+    EnvId, Meaning, ParameterTries, Ruled, STRIDE, Scope, Scopes, Value, outer_of, parameter,
+};
 use fv_parse::{Tree, TreeId, TreeNode, same_names};
 use std::alloc::{AllocError, Global};
 use std::marker::Model;
@@ -29,19 +31,22 @@ use std::marker::Model;
 const ON_FOOT: u64 = 4;
 
 /// Where a look-up may go on from the environment `at`: to `outer`, the one around it, or to `direct`, by a shortcut. A shortcut
-/// that leads nowhere leads to `at`.
+/// that leads nowhere leads to `at`. It is `steps` steps from where the look-up began.
 #[derive(Clone, Copy)]
 struct Onward {
-    at: u64,
-    outer: u64,
-    direct: u64,
+    at: EnvId,
+    outer: EnvId,
+    direct: EnvId,
+    steps: u64,
 }
 
-/// A tree with the definitions of each list in it, sorted by name. Each place with many rules has an index of them.
+/// A tree with the definitions of each list in it, sorted by name, and the parameters of each node by name. Each place with many
+/// rules has an index of them.
 #[derive(Drop)]
 pub struct Definitions<'a> {
     tree: &'a Tree<'a>,
     lists: Vec<ByName>,
+    parameters: ParameterTries,
     indexes: Vec<RuleIndex>,
     /// By node at which rules stand: the index in `indexes` at which they may be.
     places: Vec<u64>,
@@ -51,12 +56,13 @@ impl<'a> Model for Definitions<'a> {
     ghost use Rattle.fv_parse.specs.Trees.{Parsed};
     ghost use Rattle.fv_eval_lookup.specs.ByName.{AreIndexed};
     ghost use Rattle.fv_eval_lookup.specs.Indexes.{AreIndexes};
+    ghost use Rattle.fv_eval_scopes.specs.ParameterTries.{AreParameters};
 
     ghost Value = { Parsed };
 
     ghost view = { λ d. d.tree.now };
 
-    ghost invariant = { λ d. AreIndexed d.tree.now d.lists.items × AreIndexes d.tree.now d.indexes.items };
+    ghost invariant = { λ d. AreIndexed d.tree.now d.lists.items × AreIndexes d.tree.now d.indexes.items × AreParameters d.tree.now d.parameters };
 }
 
 impl<'a> Definitions<'a> {
@@ -71,9 +77,11 @@ impl<'a> Definitions<'a> {
             let list = by_name(alloc, tree, id)?;
             lists.push(list)?;
         }
+        let parameters = ParameterTries::new(alloc, tree)?;
         let mut definitions = Definitions {
             tree,
             lists,
+            parameters,
             indexes: Vec::new(alloc),
             places: Vec::new(alloc),
         };
@@ -184,7 +192,7 @@ impl<'a> Definitions<'a> {
         scopes: &Scopes,
         shortcuts: &mut Shortcuts,
         name: u64,
-        env: u64,
+        env: EnvId,
     ) -> Meaning
         ensures kept { AreShortcuts self.now scopes.now.scopes shortcuts.old → AreShortcuts self.now scopes.now.scopes shortcuts.new }
         ensures means { AreShortcuts self.now scopes.now.scopes shortcuts.old → (w : World) (x : Name) (E : Env)
@@ -201,39 +209,61 @@ impl<'a> Definitions<'a> {
             }
             let outer = outer_of(&scope);
             // No environment stands around itself.
-            if outer >= at {
+            if outer.number() >= at.number() {
                 return Meaning::Unknown;
             }
             let direct = shortcuts.slots.outward(name, at, steps);
-            let way = Onward { at, outer, direct };
-            at = self.next(scopes, &mut shortcuts.around, &way, name, steps);
+            let way = Onward {
+                at,
+                outer,
+                direct,
+                steps,
+            };
+            at = self.next(scopes, &mut shortcuts.around, &way, name);
             steps = steps.saturating_add(1);
             mark = shortcuts.slots.mark(name, mark, at, steps);
         }
         Meaning::Unknown
     }
 
-    // The next environment that a look-up looks at. It takes the shortcut if that leads outward, else the environment around. After
-    // a few steps it also passes all enclosing scopes that the tries show to have nothing of the name.
-    fn next(&self, scopes: &Scopes, around: &mut Around, way: &Onward, name: u64, steps: u64) -> u64
+    // The next environment that a look-up looks at: where the shortcut leads, if that is outward, else the environment around, past
+    // the parameters there that have another name. After a few steps it also passes all scopes that the tries show to lack the name.
+    fn next(&self, scopes: &Scopes, around: &mut Around, way: &Onward, name: u64) -> EnvId
         requires { way.now.outer < way.now.at }
         ensures kept { AreAround self.now scopes.now.scopes around.old → AreAround self.now scopes.now.scopes around.new }
         ensures skips { AreAround self.now scopes.now.scopes around.old → SkipsTo self.now scopes.now.scopes name way.now.at way.now.outer
             → SkipsTo self.now scopes.now.scopes name way.now.at way.now.direct → SkipsTo self.now scopes.now.scopes name way.now.at result }
         ensures outward { result < way.now.at }
     {
-        if way.direct < way.at {
-            way.direct
-        } else if steps < ON_FOOT {
-            way.outer
-        } else {
-            around.follow(self, scopes);
-            past(scopes, around, name, way.outer)
+        if way.direct.number() < way.at.number() {
+            return way.direct;
+        }
+        let outer = self.past_parameters(scopes, name, way.outer);
+        if way.steps < ON_FOOT {
+            return outer;
+        }
+        around.follow(self, scopes);
+        past(scopes, around, name, outer)
+    }
+
+    // From an environment outward over parameters of one abstraction that have another name.
+    fn past_parameters(&self, scopes: &Scopes, name: u64, env: EnvId) -> EnvId
+        ensures skips { SkipsTo self.now scopes.now.scopes name env result }
+        ensures outward { result ≤ env }
+    {
+        let number = env.number();
+        if number == 0 {
+            return env;
+        }
+        let before = number - 1;
+        match scopes.kept(before / STRIDE) {
+            None => env,
+            Some(kept) => self.parameters.past(&kept, name, env, before % STRIDE),
         }
     }
 
     // What the innermost scope of an environment makes of a name.
-    fn in_scope(&self, scope: &Scope, name: u64, env: u64) -> Option<Meaning>
+    fn in_scope(&self, scope: &Scope, name: u64, env: EnvId) -> Option<Meaning>
         ensures { (w : World) (x : Name) (E : Env)
             → w.tree ≡ self.now → scope_in w.scopes env ≡ Some scope.now → IsNamed w name x → ShowsEnv w env E
             → SaysOrPasses w result (lookup self.now.tokens E x) (lookup self.now.tokens (outer E) x) }
@@ -280,7 +310,7 @@ impl<'a> Definitions<'a> {
     }
 
     // What the definitions of a name in a list make of it, in the environment of the list.
-    fn defined(&self, list: TreeId, name: u64, env: u64) -> Option<Meaning>
+    fn defined(&self, list: TreeId, name: u64, env: EnvId) -> Option<Meaning>
         ensures { (w : World) (x : Name) (E : Env) (m : PureMeaning)
             → w.tree ≡ self.now → list < size_of w.tree → IsNamed w name x → ShowsEnv w env E
             → SaysOrPasses w result
@@ -347,7 +377,7 @@ fn is_same(a: &Ruled, b: &Ruled) -> bool
 }
 
 // What the `count` definitions of a name make of it. `first` is the first of them.
-fn made(tree: &Tree, list: TreeId, first: TreeId, count: u64, env: u64) -> Meaning
+fn made(tree: &Tree, list: TreeId, first: TreeId, count: u64, env: EnvId) -> Meaning
     requires { first < size_of tree.now }
     ensures { IsMade tree.now list first count env result }
 {
@@ -376,7 +406,7 @@ fn made(tree: &Tree, list: TreeId, first: TreeId, count: u64, env: u64) -> Meani
 
 // The first environment from one outward that may have something of a name, where it is known which lists are around; else
 // this one.
-fn past(scopes: &Scopes, around: &Around, name: u64, env: u64) -> u64
+fn past(scopes: &Scopes, around: &Around, name: u64, env: EnvId) -> EnvId
     ensures skips { (p : Parsed) → AreAround p scopes.now.scopes around.now → SkipsTo p scopes.now.scopes name env result }
     ensures outward { result ≤ env }
 {
@@ -387,10 +417,10 @@ fn past(scopes: &Scopes, around: &Around, name: u64, env: u64) -> u64
 }
 
 // The nearer one of two environments further outward.
-fn nearer(a: u64, b: u64) -> u64
+fn nearer(a: EnvId, b: EnvId) -> EnvId
     ensures { ((result ≡ a) × (b ≤ a)) ⊎ ((result ≡ b) × (a ≤ b)) }
 {
-    if b <= a { a } else { b }
+    if b.number() <= a.number() { a } else { b }
 }
 
 // Whether a node is a name.

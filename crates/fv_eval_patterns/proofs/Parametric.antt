@@ -1,5 +1,5 @@
 -- What a pattern binds does not hang on what was bound before.
-use Rattle.std.proofs.Common.{◌≡◌, ◌<◌, ◌≤◌, Bool, true, false, cond, List, [], ◌∷◌, ◌++◌, Option, Some, None}
+use Rattle.std.proofs.Common.{◌≡◌, ◌<◌, Bool, true, false, cond, List, [], ◌∷◌, ◌++◌, Option, Some, None}
 use Rattle.std.proofs.Common.{refl, sym, ap, subst, ◌∙◌, append_assoc, append-nil, arith, ℕ, drop, length}
 use Rattle.fv_parse.specs.Token.{Lexed}
 use Rattle.fv_diagram.specs.Words.{wrap}

@@ -1,4 +1,5 @@
 pub mod Bits
+pub mod Loans
 pub mod Patterns
 pub mod Remembered
 pub mod Shapes

@@ -6,6 +6,7 @@ ghost use Rattle.fv_rules.specs.headline.Values.{Value as PureValue};
 ghost use Rattle.fv_rules.specs.headline.Matching.{Bindings as PureBindings, all_matched};
 ghost use Rattle.fv_eval_scopes.specs.Shows.{World, ShowsValues, ShowsBindings};
 ghost use Rattle.fv_eval_scopes.specs.Memo.{Remembers, AddsIntegers};
+ghost use Rattle.fv_eval_patterns.specs.Loans.{loans_of};
 ghost use Rattle.fv_eval_patterns.specs.Patterns.{IsValid, with_diagrams, ShowsMatched};
 ghost use Rattle.fv_eval_patterns.specs.Trials.{Recalls};
 
@@ -23,57 +24,67 @@ pub struct Subjects<'s> {
     pub values: &'s [Value],
 }
 
+/// What a matching adds to and remembers. Each loan has a lifetime of its own, so that the owner knows what each of them ends with.
+#[derive(Drop)]
+pub struct Matching<'d, 'n, 't> {
+    pub diagrams: &'d mut Diagrams,
+    pub numbers: &'n mut Numbers,
+    pub trials: &'t mut Trials,
+}
+
 impl Subjects<'_> {
     /// Whether patterns match, one after the other; their bindings are added to those so far. Where one is long, they are
     /// tried first without binding anything. It adds integers alone, also where memory runs out.
     pub fn match_all(
         &self,
         patterns: &[TreeId],
-        diagrams: &mut Diagrams,
-        numbers: &mut Numbers,
-        trials: &mut Trials,
+        matching: &mut Matching,
         found: &mut Vec<Binding>,
     ) -> Result<bool, AllocError>
         requires inside { All (λ id. id < size_of self.now.tree.now) patterns.now }
-        requires valid { All (IsValid diagrams.old) self.now.values.now }
-        requires known { Remembers diagrams.old numbers.old }
-        requires recalls { Recalls self.now.tree.now diagrams.old trials.old }
-        ensures adds { AddsIntegers diagrams.old diagrams.new }
-        ensures known { Remembers diagrams.new numbers.new }
-        ensures recalls { Recalls self.now.tree.now diagrams.new trials.new }
+        requires valid { All (IsValid matching.old.diagrams.now) self.now.values.now }
+        requires known { Remembers matching.old.diagrams.now matching.old.numbers.now }
+        requires recalls { Recalls self.now.tree.now matching.old.diagrams.now matching.old.trials.now }
+        ensures adds { AddsIntegers matching.old.diagrams.now matching.new.diagrams.now }
+        ensures loans { loans_of matching.new ≡ loans_of matching.old }
+        ensures known { Remembers matching.new.diagrams.now matching.new.numbers.now }
+        ensures recalls { Recalls self.now.tree.now matching.new.diagrams.now matching.new.trials.now }
         ensures matched { IfOk result (λ b. (w : World) (vs : List PureValue) (bs : PureBindings)
-            → w.tree ≡ self.now.tree.now → w.diagrams ≡ diagrams.old → ShowsValues w self.now.values.now vs
+            → w.tree ≡ self.now.tree.now → w.diagrams ≡ matching.old.diagrams.now → ShowsValues w self.now.values.now vs
             → ShowsBindings w found.old.items bs
-            → ShowsMatched (with_diagrams w diagrams.new) b found.new.items
+            → ShowsMatched (with_diagrams w matching.new.diagrams.now) b found.new.items
             (all_matched self.now.tree.now.tokens (map (tree_in self.now.tree.now) patterns.now) vs bs)) }
     {
-        if !self.may_match(patterns, diagrams, numbers, trials)? {
+        if !self.may_match(
+            patterns,
+            matching.diagrams,
+            matching.numbers,
+            matching.trials,
+        )? {
             return Ok(false);
         }
-        let matches = self.bind_all(patterns, diagrams, numbers, trials, found)?;
-        Ok(matches)
+        self.bind_all(patterns, matching, found)
     }
 
     // Whether patterns match, one after the other, without a trial of long ones; their bindings are added to those so far.
     fn bind_all(
         &self,
         patterns: &[TreeId],
-        diagrams: &mut Diagrams,
-        numbers: &mut Numbers,
-        trials: &mut Trials,
+        matching: &mut Matching,
         found: &mut Vec<Binding>,
     ) -> Result<bool, AllocError>
         requires inside { All (λ id. id < size_of self.now.tree.now) patterns.now }
-        requires valid { All (IsValid diagrams.old) self.now.values.now }
-        requires known { Remembers diagrams.old numbers.old }
-        requires recalls { Recalls self.now.tree.now diagrams.old trials.old }
-        ensures adds { AddsIntegers diagrams.old diagrams.new }
-        ensures known { Remembers diagrams.new numbers.new }
-        ensures recalls { Recalls self.now.tree.now diagrams.new trials.new }
+        requires valid { All (IsValid matching.old.diagrams.now) self.now.values.now }
+        requires known { Remembers matching.old.diagrams.now matching.old.numbers.now }
+        requires recalls { Recalls self.now.tree.now matching.old.diagrams.now matching.old.trials.now }
+        ensures adds { AddsIntegers matching.old.diagrams.now matching.new.diagrams.now }
+        ensures loans { loans_of matching.new ≡ loans_of matching.old }
+        ensures known { Remembers matching.new.diagrams.now matching.new.numbers.now }
+        ensures recalls { Recalls self.now.tree.now matching.new.diagrams.now matching.new.trials.now }
         ensures matched { IfOk result (λ b. (w : World) (vs : List PureValue) (bs : PureBindings)
-            → w.tree ≡ self.now.tree.now → w.diagrams ≡ diagrams.old → ShowsValues w self.now.values.now vs
+            → w.tree ≡ self.now.tree.now → w.diagrams ≡ matching.old.diagrams.now → ShowsValues w self.now.values.now vs
             → ShowsBindings w found.old.items bs
-            → ShowsMatched (with_diagrams w diagrams.new) b found.new.items
+            → ShowsMatched (with_diagrams w matching.new.diagrams.now) b found.new.items
             (all_matched self.now.tree.now.tokens (map (tree_in self.now.tree.now) patterns.now) vs bs)) }
     {
         let values = self.values;
@@ -82,7 +93,7 @@ impl Subjects<'_> {
                 return Ok(false);
             }
             let value = &values[i];
-            if !self.matches_one(*pattern, value, diagrams, numbers, trials, found)? {
+            if !self.matches_one(*pattern, value, matching, found)? {
                 return Ok(false);
             }
         }

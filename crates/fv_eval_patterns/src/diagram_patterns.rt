@@ -7,13 +7,14 @@ ghost use Rattle.fv_rules.specs.headline.Values.{Value as PureValue};
 ghost use Rattle.fv_rules.specs.headline.Matching.{Bindings as PureBindings, matched};
 ghost use Rattle.fv_eval_scopes.specs.Shows.{World, ShowsValue, ShowsBindings};
 ghost use Rattle.fv_eval_scopes.specs.Memo.{Remembers, AddsIntegers};
+ghost use Rattle.fv_eval_patterns.specs.Loans.{loans_of};
 ghost use Rattle.fv_eval_patterns.specs.Patterns.{IsPair, IsValid, ShowsMatched, with_diagrams};
 ghost use Rattle.fv_eval_patterns.specs.Trials.{AddsBound, AreHalves, Binds, Misses, Recalls};
 
-use crate::all_patterns::Subjects;
+use crate::all_patterns::{Matching, Subjects};
 use crate::long_patterns::is_long;
 use crate::trials::Trials;
-use crate::value_patterns::{Pair, matches_diagram, matches_in, parts_of};
+use crate::value_patterns::{Pair, parts_of};
 use fv_diagram::Diagrams;
 use fv_eval_scopes::{Binding, Numbers, Value};
 use fv_parse::{TreeId, TreeNode};
@@ -31,22 +32,21 @@ impl Subjects<'_> {
         &self,
         pattern: TreeId,
         value: &Value,
-        diagrams: &mut Diagrams,
-        numbers: &mut Numbers,
-        trials: &mut Trials,
+        matching: &mut Matching,
         found: &mut Vec<Binding>,
     ) -> Result<bool, AllocError>
         requires inside { pattern < size_of self.now.tree.now }
-        requires value { IsValid diagrams.old value.now }
-        requires known { Remembers diagrams.old numbers.old }
-        requires recalls { Recalls self.now.tree.now diagrams.old trials.old }
-        ensures adds { AddsIntegers diagrams.old diagrams.new }
-        ensures known { Remembers diagrams.new numbers.new }
-        ensures recalls { Recalls self.now.tree.now diagrams.new trials.new }
+        requires value { IsValid matching.old.diagrams.now value.now }
+        requires known { Remembers matching.old.diagrams.now matching.old.numbers.now }
+        requires recalls { Recalls self.now.tree.now matching.old.diagrams.now matching.old.trials.now }
+        ensures adds { AddsIntegers matching.old.diagrams.now matching.new.diagrams.now }
+        ensures loans { loans_of matching.new ≡ loans_of matching.old }
+        ensures known { Remembers matching.new.diagrams.now matching.new.numbers.now }
+        ensures recalls { Recalls self.now.tree.now matching.new.diagrams.now matching.new.trials.now }
         ensures matched { IfOk result (λ b. (w : World) (v : PureValue) (bs : PureBindings)
-            → w.tree ≡ self.now.tree.now → w.diagrams ≡ diagrams.old → ShowsValue w value.now v
+            → w.tree ≡ self.now.tree.now → w.diagrams ≡ matching.old.diagrams.now → ShowsValue w value.now v
             → ShowsBindings w found.old.items bs
-            → ShowsMatched (with_diagrams w diagrams.new) b found.new.items
+            → ShowsMatched (with_diagrams w matching.new.diagrams.now) b found.new.items
             (matched self.now.tree.now.tokens (tree_in self.now.tree.now pattern) v bs)) }
     {
         match value {
@@ -55,12 +55,16 @@ impl Subjects<'_> {
                     pattern,
                     diagram: *diagram,
                 };
-                let matches = self.binds(LEVELS, pair, diagrams, numbers, trials, found)?;
+                let matches = self.binds(LEVELS, pair, matching, found)?;
                 Ok(matches)
             }
             _ => {
-                let matches = matches_in(
-                    self.alloc, self.tree, pattern, diagrams, numbers, value, found,
+                let matches = self.matches_in(
+                    pattern,
+                    matching.diagrams,
+                    matching.numbers,
+                    value,
+                    found,
                 )?;
                 Ok(matches)
             }
@@ -72,36 +76,35 @@ impl Subjects<'_> {
         &self,
         levels: u64,
         pair: Pair,
-        diagrams: &mut Diagrams,
-        numbers: &mut Numbers,
-        trials: &mut Trials,
+        matching: &mut Matching,
         found: &mut Vec<Binding>,
     ) -> Result<bool, AllocError>
-        requires pair { IsPair self.now.tree.now diagrams.old pair }
-        requires known { Remembers diagrams.old numbers.old }
-        requires recalls { Recalls self.now.tree.now diagrams.old trials.old }
-        ensures adds { AddsIntegers diagrams.old diagrams.new }
-        ensures known { Remembers diagrams.new numbers.new }
-        ensures recalls { Recalls self.now.tree.now diagrams.new trials.new }
-        ensures answers { IfOk result (λ b. MatchBool b (AddsBound self.now.tree.now diagrams.new pair found.old.items found.new.items)
-            (Misses self.now.tree.now diagrams.old pair)) }
+        requires pair { IsPair self.now.tree.now matching.old.diagrams.now pair }
+        requires known { Remembers matching.old.diagrams.now matching.old.numbers.now }
+        requires recalls { Recalls self.now.tree.now matching.old.diagrams.now matching.old.trials.now }
+        ensures adds { AddsIntegers matching.old.diagrams.now matching.new.diagrams.now }
+        ensures loans { loans_of matching.new ≡ loans_of matching.old }
+        ensures known { Remembers matching.new.diagrams.now matching.new.numbers.now }
+        ensures recalls { Recalls self.now.tree.now matching.new.diagrams.now matching.new.trials.now }
+        ensures answers { IfOk result (λ b. MatchBool b (AddsBound self.now.tree.now matching.new.diagrams.now pair found.old.items found.new.items)
+            (Misses self.now.tree.now matching.old.diagrams.now pair)) }
     {
-        if let Some(bound) = trials.bound(&pair) {
+        if let Some(bound) = matching.trials.bound(&pair) {
             found.extend_from_slice(bound)?;
             return Ok(true);
         }
-        let Some(halves) = self.halves(levels, pair, diagrams, numbers)? else {
-            let matches = self.binds_plainly(pair, diagrams, numbers, trials, found)?;
+        let Some(halves) = self.halves(levels, pair, matching.diagrams, matching.numbers)? else {
+            let matches = self.binds_plainly(pair, matching, found)?;
             return Ok(matches);
         };
         let before = found.len();
-        if !self.binds(levels - 1, halves.0, diagrams, numbers, trials, found)? {
+        if !self.binds(levels - 1, halves.0, matching, found)? {
             return Ok(false);
         }
-        if !self.binds(levels - 1, halves.1, diagrams, numbers, trials, found)? {
+        if !self.binds(levels - 1, halves.1, matching, found)? {
             return Ok(false);
         }
-        keep_few(trials, &pair, found.as_slice(), before)?;
+        keep_few(matching.trials, &pair, found.as_slice(), before)?;
         Ok(true)
     }
 
@@ -109,26 +112,25 @@ impl Subjects<'_> {
     fn binds_plainly(
         &self,
         pair: Pair,
-        diagrams: &mut Diagrams,
-        numbers: &mut Numbers,
-        trials: &mut Trials,
+        matching: &mut Matching,
         found: &mut Vec<Binding>,
     ) -> Result<bool, AllocError>
-        requires pair { IsPair self.now.tree.now diagrams.old pair }
-        requires known { Remembers diagrams.old numbers.old }
-        requires recalls { Recalls self.now.tree.now diagrams.old trials.old }
-        ensures adds { AddsIntegers diagrams.old diagrams.new }
-        ensures known { Remembers diagrams.new numbers.new }
-        ensures recalls { Recalls self.now.tree.now diagrams.new trials.new }
-        ensures answers { IfOk result (λ b. MatchBool b (AddsBound self.now.tree.now diagrams.new pair found.old.items found.new.items)
-            (Misses self.now.tree.now diagrams.old pair)) }
+        requires pair { IsPair self.now.tree.now matching.old.diagrams.now pair }
+        requires known { Remembers matching.old.diagrams.now matching.old.numbers.now }
+        requires recalls { Recalls self.now.tree.now matching.old.diagrams.now matching.old.trials.now }
+        ensures adds { AddsIntegers matching.old.diagrams.now matching.new.diagrams.now }
+        ensures loans { loans_of matching.new ≡ loans_of matching.old }
+        ensures known { Remembers matching.new.diagrams.now matching.new.numbers.now }
+        ensures recalls { Recalls self.now.tree.now matching.new.diagrams.now matching.new.trials.now }
+        ensures answers { IfOk result (λ b. MatchBool b (AddsBound self.now.tree.now matching.new.diagrams.now pair found.old.items found.new.items)
+            (Misses self.now.tree.now matching.old.diagrams.now pair)) }
     {
         let mut bound = Vec::new(self.alloc);
-        if !matches_diagram(self.alloc, self.tree, pair, diagrams, numbers, &mut bound)? {
+        if !self.matches_diagram(pair, matching.diagrams, matching.numbers, &mut bound)? {
             return Ok(false);
         }
         if is_long(self.tree, pair.pattern) {
-            keep_few(trials, &pair, bound.as_slice(), 0)?;
+            keep_few(matching.trials, &pair, bound.as_slice(), 0)?;
         }
         found.extend_from_slice(bound.as_slice())?;
         Ok(true)

@@ -11,7 +11,7 @@ mod survey;
 mod trials;
 mod value_patterns;
 
-pub use all_patterns::Subjects;
+pub use all_patterns::{Matching, Subjects};
 pub use bits::{Bits, WORD};
 pub use shapes::{Composition, Shape};
 pub use survey::{Look, ShapeRow};

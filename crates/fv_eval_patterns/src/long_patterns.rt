@@ -17,7 +17,7 @@ use fv_diagram::Diagrams;
 use fv_eval_scopes::{Numbers, Value};
 use fv_parse::{Tree, TreeId, TreeNode};
 use fv_rules::{literal, negative_literal};
-use std::alloc::{AllocError, Global};
+use std::alloc::AllocError;
 
 /// A pattern with at least this many parts is long.
 const LONG: u64 = 16;
@@ -90,46 +90,99 @@ impl Subjects<'_> {
                     pattern: *pattern,
                     diagram: *diagram,
                 };
-                if !pair_may_match(self.alloc, self.tree, pair, diagrams, numbers, trials)? {
+                if !self.pair_may_match(pair, diagrams, numbers, trials)? {
                     return Ok(false);
                 }
             }
         }
         Ok(true)
     }
-}
 
-// Whether a pattern may match a diagram.
-fn pair_may_match(
-    alloc: Global,
-    tree: &Tree,
-    whole: Pair,
-    diagrams: &Diagrams,
-    numbers: &mut Numbers,
-    trials: &mut Trials,
-) -> Result<bool, AllocError>
-    requires whole { IsPair tree.now diagrams.now whole }
-    requires known { Remembers diagrams.now numbers.old }
-    requires recalls { Recalls tree.now diagrams.now trials.old }
-    ensures known { Remembers diagrams.now numbers.new }
-    ensures recalls { Recalls tree.now diagrams.now trials.new }
-    ensures says { IfOk result (λ b. Says tree.now diagrams.now b whole) }
-{
-    trials.explore(alloc, tree, diagrams, numbers, whole.diagram)?;
-    let mut tasks = Vec::new(alloc);
-    tasks.push(Task::Try(whole))?;
-    while let Some(task) = tasks.pop() {
-        match task {
-            Task::Note(pair) => trials.remember(&pair, true)?,
-            Task::Try(pair) => {
-                if !attempt(alloc, tree, pair, diagrams, numbers, trials, &mut tasks)? {
-                    note_misses(tasks, trials)?;
-                    return Ok(false);
+    // Whether a pattern may match a diagram.
+    fn pair_may_match(
+        &self,
+        whole: Pair,
+        diagrams: &Diagrams,
+        numbers: &mut Numbers,
+        trials: &mut Trials,
+    ) -> Result<bool, AllocError>
+        requires whole { IsPair self.now.tree.now diagrams.now whole }
+        requires known { Remembers diagrams.now numbers.old }
+        requires recalls { Recalls self.now.tree.now diagrams.now trials.old }
+        ensures known { Remembers diagrams.now numbers.new }
+        ensures recalls { Recalls self.now.tree.now diagrams.now trials.new }
+        ensures says { IfOk result (λ b. Says self.now.tree.now diagrams.now b whole) }
+    {
+        trials.explore(self.alloc, self.tree, diagrams, numbers, whole.diagram)?;
+        let mut tasks = Vec::new(self.alloc);
+        tasks.push(Task::Try(whole))?;
+        while let Some(task) = tasks.pop() {
+            match task {
+                Task::Note(pair) => trials.remember(&pair, true)?,
+                Task::Try(pair) => {
+                    if !self.attempt(pair, diagrams, numbers, trials, &mut tasks)? {
+                        note_misses(tasks, trials)?;
+                        return Ok(false);
+                    }
                 }
             }
         }
+        Ok(true)
     }
-    Ok(true)
+
+    // One pattern on one diagram: whether they may match still. The parts of a composition are tried next.
+    fn attempt(
+        &self,
+        pair: Pair,
+        diagrams: &Diagrams,
+        numbers: &mut Numbers,
+        trials: &Trials,
+        tasks: &mut Vec<Task>,
+    ) -> Result<bool, AllocError>
+        requires pair { IsPair self.now.tree.now diagrams.now pair }
+        requires known { Remembers diagrams.now numbers.old }
+        requires recalls { Recalls self.now.tree.now diagrams.now trials.now }
+        ensures known { Remembers diagrams.now numbers.new }
+        ensures splits { IfOk result (λ b. MatchBool b (Splits self.now.tree.now diagrams.now pair tasks.old.items tasks.new.items)
+            (Refuses self.now.tree.now diagrams.now pair)) }
+        ensures same { IfOk result (λ b. b ≡ false → tasks.new.items ≡ tasks.old.items) }
+    {
+        match self.tree.node(pair.pattern) {
+            TreeNode::Named(_) => Ok(true),
+            TreeNode::Number(n) => {
+                let k = literal(*n);
+                let same = has_number(self.alloc, diagrams, numbers, pair.diagram, k)?;
+                Ok(same)
+            }
+            TreeNode::Negative(n) => {
+                let k = negative_literal(*n);
+                let same = has_number(self.alloc, diagrams, numbers, pair.diagram, k)?;
+                Ok(same)
+            }
+            TreeNode::Binary(operator, p, q) => {
+                if let Some(may) = trials.recall(&pair) {
+                    return Ok(may);
+                }
+                let parts = parts_of(self.alloc, diagrams, numbers, *operator, pair.diagram)?;
+                match parts {
+                    None => Ok(false),
+                    Some(both) => {
+                        tasks.push(Task::Note(pair))?;
+                        tasks.push(Task::Try(Pair {
+                            pattern: *q,
+                            diagram: both.1,
+                        }))?;
+                        tasks.push(Task::Try(Pair {
+                            pattern: *p,
+                            diagram: both.0,
+                        }))?;
+                        Ok(true)
+                    }
+                }
+            }
+            _ => Ok(false),
+        }
+    }
 }
 
 // Notes of each pair that is left that it does not match.
@@ -145,62 +198,4 @@ fn note_misses(tasks: Vec<Task>, trials: &mut Trials) -> Result<(), AllocError>
         }
     }
     Ok(())
-}
-
-// One pattern on one diagram: whether they may match still. The parts of a composition are tried next.
-fn attempt(
-    alloc: Global,
-    tree: &Tree,
-    pair: Pair,
-    diagrams: &Diagrams,
-    numbers: &mut Numbers,
-    trials: &Trials,
-    tasks: &mut Vec<Task>,
-) -> Result<bool, AllocError>
-    requires pair { IsPair tree.now diagrams.now pair }
-    requires known { Remembers diagrams.now numbers.old }
-    requires recalls { Recalls tree.now diagrams.now trials.now }
-    ensures known { Remembers diagrams.now numbers.new }
-    ensures splits { IfOk result (λ b. MatchBool b (Splits tree.now diagrams.now pair tasks.old.items tasks.new.items)
-        (Refuses tree.now diagrams.now pair)) }
-    ensures same { IfOk result (λ b. b ≡ false → tasks.new.items ≡ tasks.old.items) }
-{
-    match tree.node(pair.pattern) {
-        TreeNode::Named(_) => Ok(true),
-        TreeNode::Number(n) => {
-            let k = literal(*n);
-            let same = has_number(alloc, diagrams, numbers, pair.diagram, k)?;
-            Ok(same)
-        }
-        TreeNode::Negative(n) => {
-            let k = negative_literal(*n);
-            let same = has_number(alloc, diagrams, numbers, pair.diagram, k)?;
-            Ok(same)
-        }
-        TreeNode::Binary(operator, p, q) => {
-            if let Some(may) = trials.recall(&pair) {
-                return Ok(may);
-            }
-            let parts = parts_of(alloc, diagrams, numbers, *operator, pair.diagram)?;
-            match parts {
-                None => Ok(false),
-                Some(both) => {
-                    tasks.push(Task::Note(Pair {
-                        pattern: pair.pattern,
-                        diagram: pair.diagram,
-                    }))?;
-                    tasks.push(Task::Try(Pair {
-                        pattern: *q,
-                        diagram: both.1,
-                    }))?;
-                    tasks.push(Task::Try(Pair {
-                        pattern: *p,
-                        diagram: both.0,
-                    }))?;
-                    Ok(true)
-                }
-            }
-        }
-        _ => Ok(false),
-    }
 }

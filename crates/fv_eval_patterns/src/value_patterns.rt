@@ -12,6 +12,7 @@ ghost use Rattle.fv_eval_scopes.specs.Memo.{Remembers, AddsIntegers};
 ghost use Rattle.fv_eval_patterns.specs.Patterns.{IsValid, IsNoDiagram, with_diagrams, ShowsMatched, ShowsMatch, IsPair};
 ghost use Rattle.fv_eval_patterns.specs.Patterns.{BindsName, Leaves, Refuses, are_parts, both_parts, ArePartsOf};
 
+use crate::all_patterns::Subjects;
 use fv_diagram::{DiagramId, Diagrams, Node};
 use fv_eval_scopes::{Binding, Numbers, Value};
 use fv_parse::{Tree, TreeId, TreeNode, same_names};
@@ -73,55 +74,17 @@ pub fn matches(
         → w.tree ≡ tree.now → w.diagrams ≡ diagrams.old → ShowsValue w argument.now v
         → ShowsMatch (with_diagrams w diagrams.new) o (matched tree.now.tokens (tree_in tree.now pattern) v [])) }
 {
-    let mut numbers = Numbers::new(alloc);
-    let mut found = Vec::new(alloc);
-    if matches_in(
+    let subjects = Subjects {
         alloc,
         tree,
-        pattern,
-        diagrams,
-        &mut numbers,
-        argument,
-        &mut found,
-    )? {
+        values: &[],
+    };
+    let mut numbers = Numbers::new(alloc);
+    let mut found = Vec::new(alloc);
+    if subjects.matches_in(pattern, diagrams, &mut numbers, argument, &mut found)? {
         Ok(Some(Bindings::of(found)))
     } else {
         Ok(None)
-    }
-}
-
-/// Tries a pattern on a value: whether it matches. The bindings are added to those so far. It adds integers alone, also where memory runs out.
-pub(crate) fn matches_in(
-    alloc: Global,
-    tree: &Tree,
-    pattern: TreeId,
-    diagrams: &mut Diagrams,
-    numbers: &mut Numbers,
-    argument: &Value,
-    found: &mut Vec<Binding>,
-) -> Result<bool, AllocError>
-    requires inside { pattern < size_of tree.now }
-    requires argument { IsValid diagrams.old argument.now }
-    requires known { Remembers diagrams.old numbers.old }
-    ensures adds { AddsIntegers diagrams.old diagrams.new }
-    ensures known { Remembers diagrams.new numbers.new }
-    ensures matched { IfOk result (λ b. (w : World) (v : PureValue) (bs : PureBindings)
-        → w.tree ≡ tree.now → w.diagrams ≡ diagrams.old → ShowsValue w argument.now v
-        → ShowsBindings w found.old.items bs
-        → ShowsMatched (with_diagrams w diagrams.new) b found.new.items
-        (matched tree.now.tokens (tree_in tree.now pattern) v bs)) }
-{
-    match argument {
-        Value::Diagram(diagram) => {
-            let pair = Pair {
-                pattern,
-                diagram: *diagram,
-            };
-            matches_diagram(alloc, tree, pair, diagrams, numbers, found)
-        }
-        Value::Abstraction { .. } | Value::Rules { .. } => binds_whole(
-            tree, pattern, argument, found,
-        ),
     }
 }
 
@@ -157,89 +120,123 @@ fn binds_whole(
     }
 }
 
-/// A pattern on a diagram: whether it matches. The bindings are added to those so far.
-pub(crate) fn matches_diagram(
-    alloc: Global,
-    tree: &Tree,
-    whole: Pair,
-    diagrams: &mut Diagrams,
-    numbers: &mut Numbers,
-    found: &mut Vec<Binding>,
-) -> Result<bool, AllocError>
-    requires whole { IsPair tree.now diagrams.old whole }
-    requires known { Remembers diagrams.old numbers.old }
-    ensures adds { AddsIntegers diagrams.old diagrams.new }
-    ensures known { Remembers diagrams.new numbers.new }
-    ensures matched { IfOk result (λ b. (w : World) (bs : PureBindings)
-        → w.tree ≡ tree.now → w.diagrams ≡ diagrams.old → ShowsBindings w found.old.items bs
-        → ShowsMatched (with_diagrams w diagrams.new) b found.new.items
-        (matched tree.now.tokens (tree_in tree.now whole.pattern) (Flat (tree_of diagrams.old whole.diagram)) bs)) }
-{
-    // A name and a number wait for nothing, so no memory is taken for them.
-    let mut pending = Vec::new(alloc);
-    if !advance(alloc, tree, whole, diagrams, numbers, &mut pending, found)? {
-        return Ok(false);
+impl Subjects<'_> {
+    /// Tries a pattern on a value: whether it matches. The bindings are added to those so far. It adds integers alone, also where memory runs out.
+    pub(crate) fn matches_in(
+        &self,
+        pattern: TreeId,
+        diagrams: &mut Diagrams,
+        numbers: &mut Numbers,
+        argument: &Value,
+        found: &mut Vec<Binding>,
+    ) -> Result<bool, AllocError>
+        requires inside { pattern < size_of self.now.tree.now }
+        requires argument { IsValid diagrams.old argument.now }
+        requires known { Remembers diagrams.old numbers.old }
+        ensures adds { AddsIntegers diagrams.old diagrams.new }
+        ensures known { Remembers diagrams.new numbers.new }
+        ensures matched { IfOk result (λ b. (w : World) (v : PureValue) (bs : PureBindings)
+            → w.tree ≡ self.now.tree.now → w.diagrams ≡ diagrams.old → ShowsValue w argument.now v
+            → ShowsBindings w found.old.items bs
+            → ShowsMatched (with_diagrams w diagrams.new) b found.new.items
+            (matched self.now.tree.now.tokens (tree_in self.now.tree.now pattern) v bs)) }
+    {
+        match argument {
+            Value::Diagram(diagram) => {
+                let pair = Pair {
+                    pattern,
+                    diagram: *diagram,
+                };
+                self.matches_diagram(pair, diagrams, numbers, found)
+            }
+            Value::Abstraction { .. } | Value::Rules { .. } => binds_whole(
+                self.tree, pattern, argument, found,
+            ),
+        }
     }
-    while let Some(pair) = pending.pop() {
-        if !advance(alloc, tree, pair, diagrams, numbers, &mut pending, found)? {
+
+    /// A pattern on a diagram: whether it matches. The bindings are added to those so far.
+    pub(crate) fn matches_diagram(
+        &self,
+        whole: Pair,
+        diagrams: &mut Diagrams,
+        numbers: &mut Numbers,
+        found: &mut Vec<Binding>,
+    ) -> Result<bool, AllocError>
+        requires whole { IsPair self.now.tree.now diagrams.old whole }
+        requires known { Remembers diagrams.old numbers.old }
+        ensures adds { AddsIntegers diagrams.old diagrams.new }
+        ensures known { Remembers diagrams.new numbers.new }
+        ensures matched { IfOk result (λ b. (w : World) (bs : PureBindings)
+            → w.tree ≡ self.now.tree.now → w.diagrams ≡ diagrams.old → ShowsBindings w found.old.items bs
+            → ShowsMatched (with_diagrams w diagrams.new) b found.new.items
+            (matched self.now.tree.now.tokens (tree_in self.now.tree.now whole.pattern) (Flat (tree_of diagrams.old whole.diagram)) bs)) }
+    {
+        // A name and a number wait for nothing, so no memory is taken for them.
+        let mut pending = Vec::new(self.alloc);
+        if !self.advance(whole, diagrams, numbers, &mut pending, found)? {
             return Ok(false);
         }
-    }
-    Ok(true)
-}
-
-// One pattern on one diagram: whether they may match still. The parts of a composition wait.
-fn advance(
-    alloc: Global,
-    tree: &Tree,
-    pair: Pair,
-    diagrams: &mut Diagrams,
-    numbers: &mut Numbers,
-    pending: &mut Vec<Pair>,
-    found: &mut Vec<Binding>,
-) -> Result<bool, AllocError>
-    requires pair { IsPair tree.now diagrams.old pair }
-    requires known { Remembers diagrams.old numbers.old }
-    ensures adds { AddsIntegers diagrams.old diagrams.new }
-    ensures known { Remembers diagrams.new numbers.new }
-    ensures matched { IfOk result (λ b. MatchBool b
-        (Leaves tree.now diagrams.old diagrams.new pair pending.old.items pending.new.items found.old.items found.new.items)
-        (Refuses tree.now diagrams.old pair)) }
-{
-    match tree.node(pair.pattern) {
-        TreeNode::Named(n) => {
-            let settled = numbers.settle(alloc, diagrams, pair.diagram)?;
-            bind(tree, *n, Value::Diagram(settled), found)?;
-            Ok(true)
-        }
-        TreeNode::Number(n) => {
-            let k = literal(*n);
-            let same = has_number(alloc, diagrams, numbers, pair.diagram, k)?;
-            Ok(same)
-        }
-        TreeNode::Negative(n) => {
-            let k = negative_literal(*n);
-            let same = has_number(alloc, diagrams, numbers, pair.diagram, k)?;
-            Ok(same)
-        }
-        TreeNode::Binary(operator, p, q) => {
-            let parts = parts_of(alloc, diagrams, numbers, *operator, pair.diagram)?;
-            match parts {
-                None => Ok(false),
-                Some(both) => {
-                    pending.push(Pair {
-                        pattern: *q,
-                        diagram: both.1,
-                    })?;
-                    pending.push(Pair {
-                        pattern: *p,
-                        diagram: both.0,
-                    })?;
-                    Ok(true)
-                }
+        while let Some(pair) = pending.pop() {
+            if !self.advance(pair, diagrams, numbers, &mut pending, found)? {
+                return Ok(false);
             }
         }
-        _ => Ok(false),
+        Ok(true)
+    }
+
+    // One pattern on one diagram: whether they may match still. The parts of a composition wait.
+    fn advance(
+        &self,
+        pair: Pair,
+        diagrams: &mut Diagrams,
+        numbers: &mut Numbers,
+        pending: &mut Vec<Pair>,
+        found: &mut Vec<Binding>,
+    ) -> Result<bool, AllocError>
+        requires pair { IsPair self.now.tree.now diagrams.old pair }
+        requires known { Remembers diagrams.old numbers.old }
+        ensures adds { AddsIntegers diagrams.old diagrams.new }
+        ensures known { Remembers diagrams.new numbers.new }
+        ensures matched { IfOk result (λ b. MatchBool b
+            (Leaves self.now.tree.now diagrams.old diagrams.new pair pending.old.items pending.new.items found.old.items found.new.items)
+            (Refuses self.now.tree.now diagrams.old pair)) }
+    {
+        match self.tree.node(pair.pattern) {
+            TreeNode::Named(n) => {
+                let settled = numbers.settle(self.alloc, diagrams, pair.diagram)?;
+                bind(self.tree, *n, Value::Diagram(settled), found)?;
+                Ok(true)
+            }
+            TreeNode::Number(n) => {
+                let k = literal(*n);
+                let same = has_number(self.alloc, diagrams, numbers, pair.diagram, k)?;
+                Ok(same)
+            }
+            TreeNode::Negative(n) => {
+                let k = negative_literal(*n);
+                let same = has_number(self.alloc, diagrams, numbers, pair.diagram, k)?;
+                Ok(same)
+            }
+            TreeNode::Binary(operator, p, q) => {
+                let parts = parts_of(self.alloc, diagrams, numbers, *operator, pair.diagram)?;
+                match parts {
+                    None => Ok(false),
+                    Some(both) => {
+                        pending.push(Pair {
+                            pattern: *q,
+                            diagram: both.1,
+                        })?;
+                        pending.push(Pair {
+                            pattern: *p,
+                            diagram: both.0,
+                        })?;
+                        Ok(true)
+                    }
+                }
+            }
+            _ => Ok(false),
+        }
     }
 }
 

@@ -1,8 +1,9 @@
 -- The lemmas that proofs of other crates take.
-pub mod Numbered
-pub mod Grown
-pub mod Outward
 pub mod Added
-pub mod Forks
-pub mod Skips
 pub mod Binders
+pub mod Forks
+pub mod Grown
+pub mod NameTries
+pub mod Numbered
+pub mod Outward
+pub mod Skips

@@ -1,8 +1,9 @@
 pub mod Environments
-pub mod Tries
-pub mod Ways
-pub mod Shows
 pub mod Memo
 pub mod Outward
-pub mod Slots
 pub mod Parameters
+pub mod ParameterTries
+pub mod Shows
+pub mod Slots
+pub mod Tries
+pub mod Ways

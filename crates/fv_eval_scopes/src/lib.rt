@@ -4,6 +4,7 @@
 
 mod memo;
 mod parameter_names;
+mod parameter_tries;
 mod scopes;
 mod slots;
 mod tries;
@@ -12,8 +13,9 @@ mod ways;
 
 pub use memo::{Known, Numbers};
 pub use parameter_names::{canonical, parameter, parameters};
+pub use parameter_tries::ParameterTries;
 pub use scopes::{STRIDE, Scopes};
 pub use slots::{Shortcut, Slots};
 pub use tries::Tries;
-pub use value::{Argument, Binding, Meaning, Ruled, Scope, Value};
+pub use value::{Argument, Binding, EnvId, Meaning, Ruled, Scope, Value};
 pub use ways::outer_of;

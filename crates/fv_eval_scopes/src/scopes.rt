@@ -10,7 +10,7 @@ ghost use Rattle.fv_eval_scopes.specs.declared.value.Value.{Value as AValue};
 ghost use Rattle.fv_rules.specs.headline.Matching.{Bindings, bound_in};
 ghost use Rattle.fv_eval_scopes.specs.Shows.{World, ShowsEnv, ShowsTaken, ShowsValues, ShowsBindings, Grows};
 
-use crate::value::{Argument, Binding, Ruled, Scope, Value};
+use crate::value::{Argument, Binding, EnvId, Ruled, Scope, Value};
 use crate::ways::Ways;
 use fv_base::limits::MOST_SCOPES;
 use fv_parse::TreeId;
@@ -58,7 +58,7 @@ impl Scopes {
     }
 
     /// Binds a name to a value in an environment, and returns the number of the new environment.
-    pub fn bind(&mut self, name: u64, value: Value, outer: u64) -> Result<u64, AllocError>
+    pub fn bind(&mut self, name: u64, value: Value, outer: EnvId) -> Result<EnvId, AllocError>
         ensures ok { IfOk result (λ i. (i ≡ next_number self.old.scopes)
             × (self.new ≡ with_scope self.old (Bound name value outer))) }
         ensures err { OnErr result (self.new ≡ self.old) }
@@ -67,7 +67,7 @@ impl Scopes {
     }
 
     /// Opens a list of definitions in an environment, and returns the number of the new environment.
-    pub fn open(&mut self, list: TreeId, outer: u64) -> Result<u64, AllocError>
+    pub fn open(&mut self, list: TreeId, outer: EnvId) -> Result<EnvId, AllocError>
         ensures ok { IfOk result (λ i. (i ≡ next_number self.old.scopes)
             × (self.new ≡ with_scope self.old (Definitions list outer))) }
         ensures err { OnErr result (self.new ≡ self.old) }
@@ -83,8 +83,8 @@ impl Scopes {
         parameter: u64,
         count: u64,
         slot: u64,
-        outer: u64,
-    ) -> Result<u64, AllocError>
+        outer: EnvId,
+    ) -> Result<EnvId, AllocError>
         requires { 1 ≤ count }
         ensures ok { IfOk result (λ i. (i ≡ next_number self.old.scopes + (count - 1)) × (count ≤ MOST_NUMBERS)
             × (self.new ≡ with_scope self.old (Slots node parameter slot outer))) }
@@ -99,11 +99,11 @@ impl Scopes {
             slot,
             outer,
         })?;
-        Ok(first + (count - 1))
+        Ok(EnvId::new(first.number() + (count - 1)))
     }
 
     // Adds a scope, with the way outward from it.
-    fn push(&mut self, scope: Scope) -> Result<u64, AllocError>
+    fn push(&mut self, scope: Scope) -> Result<EnvId, AllocError>
         requires { HasRoom scope }
         ensures ok { IfOk result (λ i. (i ≡ next_number self.old.scopes) × (self.new ≡ with_scope self.old scope)) }
         ensures small { IfOk result (λ i. i < 2 ^ 63) }
@@ -138,16 +138,17 @@ impl Scopes {
     }
 
     /// The innermost scope of an environment; the outermost environment has none.
-    pub fn scope(&self, env: u64) -> Option<Scope>
+    pub fn scope(&self, env: EnvId) -> Option<Scope>
         ensures { result ≡ scope_in self.now.scopes env }
     {
-        if env == 0 {
+        let number = env.number();
+        if number == 0 {
             return None;
         }
-        let before = env - 1;
+        let before = number - 1;
         match self.kept(before / STRIDE) {
             None => None,
-            Some(scope) => Some(nth_scope(scope, before % STRIDE, before)),
+            Some(scope) => Some(nth_scope(scope, before % STRIDE, EnvId::new(before))),
         }
     }
 
@@ -161,7 +162,7 @@ impl Scopes {
 
     /// An enclosing environment, or the same one, before which no scope outward has this key. The key of a scope is the name that
     /// it binds, or its list of definitions.
-    pub fn lead(&self, env: u64, key: u64) -> u64
+    pub fn lead(&self, env: EnvId, key: u64) -> EnvId
         ensures { PassesTo self.now.scopes (λ m. m ≡ key) env result }
     {
         self.ways.lead(env, key)
@@ -196,7 +197,7 @@ impl Scopes {
     }
 
     /// Names bound to values, one after the other, in an environment: the number of the innermost environment.
-    pub fn bind_all(&mut self, bindings: &[Binding], outer: u64) -> Result<u64, AllocError>
+    pub fn bind_all(&mut self, bindings: &[Binding], outer: EnvId) -> Result<EnvId, AllocError>
         ensures grows { (w : World) → w.scopes ≡ self.old.scopes → Grows w (record w { scopes = self.new.scopes }) }
         ensures taken { self.new.taken ≡ self.old.taken }
         ensures bound { IfOk result (λ i. (w : World) (E : Env) (bs : Bindings)
@@ -212,15 +213,15 @@ impl Scopes {
 }
 
 /// The number of the first environment of the scope that is kept at a place.
-pub(crate) fn first_number(place: u64) -> u64
+pub(crate) fn first_number(place: u64) -> EnvId
     requires { place < 2 ^ 40 }
     ensures { result ≡ first_number place }
 {
-    place * STRIDE + 1
+    EnvId::new(place * STRIDE + 1)
 }
 
 // Returns the innermost scope of environment `k` of a kept scope, counted from 0; `before` is the number of the environment before it.
-fn nth_scope(scope: Scope, k: u64, before: u64) -> Scope
+fn nth_scope(scope: Scope, k: u64, before: EnvId) -> Scope
     requires room { HasRoom scope }
     requires few { k < MOST_NUMBERS }
     ensures { result ≡ nth_scope k before scope }

@@ -7,6 +7,7 @@ ghost use Rattle.fv_eval_scopes.specs.Slots.{AreSlots};
 ghost use Rattle.fv_eval_scopes.specs.Outward.{SkipsTo};
 
 use crate::scopes::STRIDE;
+use crate::value::EnvId;
 use std::alloc::{AllocError, Global};
 use std::marker::Model;
 
@@ -22,8 +23,8 @@ const FEW_STEPS: u64 = 16;
 #[derive(Clone, Copy, Debug)]
 pub struct Shortcut {
     pub name: u64,
-    pub from: u64,
-    pub to: u64,
+    pub from: EnvId,
+    pub to: EnvId,
 }
 
 /// A direct-mapped cache of shortcuts. Each name and environment has one slot; a later one evicts what it has.
@@ -55,14 +56,15 @@ impl Slots {
     }
 
     // The slot of a name and an environment, where there are slots.
-    fn place(&self, name: u64, from: u64) -> Option<usize>
+    fn place(&self, name: u64, from: EnvId) -> Option<usize>
         ensures { IfSome result (λ i. i < length self.now) }
     {
         let count = self.slots.len() as u64;
         if count == 0 {
             return None;
         }
-        let near = (from / STRIDE).wrapping_add(from % STRIDE);
+        let number = from.number();
+        let near = (number / STRIDE).wrapping_add(number % STRIDE);
         let mixed = name.wrapping_mul(0x9e37_79b9).wrapping_add(near);
         // The count is a power of two, unless a growth was refused.
         Some((mixed & (count - 1)) as usize)
@@ -70,7 +72,7 @@ impl Slots {
 
     /// Where the shortcut of a name leads from an environment. Without one, or before `FEW_STEPS` steps, that is the environment
     /// itself.
-    pub fn outward(&self, name: u64, from: u64, steps: u64) -> u64
+    pub fn outward(&self, name: u64, from: EnvId, steps: u64) -> EnvId
         ensures { (p : Parsed) (scopes : List AScope) → AreSlots p scopes self.now → SkipsTo p scopes name from result }
     {
         if steps < FEW_STEPS {
@@ -80,7 +82,7 @@ impl Slots {
             return from;
         };
         let found = self.slots[i];
-        if found.name == name && found.from == from {
+        if found.name == name && found.from.number() == from.number() {
             found.to
         } else {
             from
@@ -88,7 +90,7 @@ impl Slots {
     }
 
     /// Remembers the way from the last mark to here, each time that the steps of a look-up have doubled. Returns the last mark.
-    pub fn mark(&mut self, name: u64, last: u64, here: u64, steps: u64) -> u64
+    pub fn mark(&mut self, name: u64, last: EnvId, here: EnvId, steps: u64) -> EnvId
         ensures skips { (p : Parsed) (scopes : List AScope) → SkipsTo p scopes name last here → SkipsTo p scopes name result here }
         ensures kept { (p : Parsed) (scopes : List AScope) → AreSlots p scopes self.old → SkipsTo p scopes name last here
             → AreSlots p scopes self.new }
@@ -102,7 +104,7 @@ impl Slots {
 
     /// Remembers the way of a look-up from one environment to another, unless it was short. What there is no memory for is not
     /// remembered.
-    pub fn keep(&mut self, name: u64, from: u64, to: u64, steps: u64)
+    pub fn keep(&mut self, name: u64, from: EnvId, to: EnvId, steps: u64)
         ensures { (p : Parsed) (scopes : List AScope) → AreSlots p scopes self.old → SkipsTo p scopes name from to
             → AreSlots p scopes self.new }
     {
@@ -112,7 +114,7 @@ impl Slots {
     }
 
     // Remembers a way from one environment to another.
-    fn remember(&mut self, name: u64, from: u64, to: u64) -> Result<(), AllocError>
+    fn remember(&mut self, name: u64, from: EnvId, to: EnvId) -> Result<(), AllocError>
         ensures { (p : Parsed) (scopes : List AScope) → AreSlots p scopes self.old → SkipsTo p scopes name from to
             → AreSlots p scopes self.new }
     {
@@ -125,7 +127,7 @@ impl Slots {
     }
 
     // Doubles the slots once half as many were remembered. A new one leads nowhere.
-    fn widen(&mut self, name: u64, from: u64) -> Result<(), AllocError>
+    fn widen(&mut self, name: u64, from: EnvId) -> Result<(), AllocError>
         ensures { (p : Parsed) (scopes : List AScope) → AreSlots p scopes self.old → AreSlots p scopes self.new }
     {
         let count = self.slots.len();

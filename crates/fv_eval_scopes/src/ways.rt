@@ -7,7 +7,7 @@ ghost use Rattle.fv_eval_scopes.specs.Ways.{PassesTo, IsWay, AreWays, key_of};
 
 use crate::scopes::{STRIDE, first_number};
 use crate::tries::Tries;
-use crate::value::{Ruled, Scope, Value};
+use crate::value::{EnvId, Ruled, Scope, Value};
 use std::alloc::{AllocError, Global};
 
 /// How many bits of a key a trie goes by, the lowest ones. Keys with the same ones share an entry.
@@ -18,7 +18,7 @@ const LEVELS: u64 = 12;
 #[derive(Clone, Copy, Debug)]
 pub(crate) struct Way {
     root: u64,
-    end: u64,
+    end: EnvId,
 }
 
 /// The tries of environments: one for all environments of a kept scope.
@@ -40,14 +40,15 @@ impl Ways {
     }
 
     // The way outward from an environment; from the outermost one it goes nowhere.
-    fn outward(&self, env: u64) -> Way
+    fn outward(&self, env: EnvId) -> Way
         ensures { (scopes : List AScope) → AreWays scopes self.now → IsWay scopes self.now.tries env result }
     {
         let nowhere = Way { root: 0, end: env };
-        if env == 0 {
+        let number = env.number();
+        if number == 0 {
             return nowhere;
         }
-        let before = env - 1;
+        let before = number - 1;
         if before % STRIDE != 0 {
             return nowhere;
         }
@@ -65,12 +66,16 @@ impl Ways {
     }
 
     /// An enclosing environment, or the same one, before which no scope outward has this key.
-    pub(crate) fn lead(&self, env: u64, key: u64) -> u64
+    pub(crate) fn lead(&self, env: EnvId, key: u64) -> EnvId
         ensures { (scopes : List AScope) → AreWays scopes self.now → PassesTo scopes (λ m. m ≡ key) env result }
     {
         let way = self.outward(env);
         let found = self.tries.find(way.root, LEVELS, key);
-        if found == 0 { way.end } else { found }
+        if found == 0 {
+            way.end
+        } else {
+            EnvId::new(found)
+        }
     }
 
     /// Adds the way outward from one scope more.
@@ -82,7 +87,7 @@ impl Ways {
         let _within: Option<(Value, Ruled)> = None;
         let outer = outer_of(scope);
         // No environment stands around itself.
-        if outer >= first_number(self.ways.len() as u64) {
+        if outer.number() >= first_number(self.ways.len() as u64).number() {
             return self.end();
         }
         match key_of(scope) {
@@ -92,7 +97,7 @@ impl Ways {
     }
 
     // Adds the way outward from a scope with this key: that of the environment around it, and this scope.
-    fn go_on(&mut self, key: u64, outer: u64) -> Result<(), AllocError>
+    fn go_on(&mut self, key: u64, outer: EnvId) -> Result<(), AllocError>
         requires { length self.old.ways.items < 2 ^ 40 }
         ensures ok { IfOk result (λ _. (scopes : List AScope) (s : AScope) → key_of s ≡ Some key → outer_number s ≡ outer
             → outer < next_number scopes → AreWays scopes self.old → AreWays (scopes ++ s ∷ []) self.new) }
@@ -100,7 +105,7 @@ impl Ways {
     {
         let way = self.outward(outer);
         let here = first_number(self.ways.len() as u64);
-        let root = self.tries.with(way.root, LEVELS, key, here)?;
+        let root = self.tries.with(way.root, LEVELS, key, here.number())?;
         self.ways.push(Way { root, end: way.end })?;
         Ok(())
     }
@@ -117,8 +122,8 @@ impl Ways {
     }
 }
 
-/// The number of the environment around a scope.
-pub fn outer_of(scope: &Scope) -> u64
+/// The environment around a scope.
+pub fn outer_of(scope: &Scope) -> EnvId
     ensures { result ≡ outer_number scope.now }
 {
     match scope {

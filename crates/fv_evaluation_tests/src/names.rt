@@ -6,7 +6,7 @@ ghost use Rattle.fv_parse.specs.Trees.{size_of};
 use fv_diagram::{Diagrams, Node};
 use fv_eval_lookup::{Definitions, Shortcuts};
 use fv_eval_patterns::{Bindings, matches};
-use fv_eval_scopes::{Meaning, Scopes, Value};
+use fv_eval_scopes::{EnvId, Meaning, Scopes, Value};
 use fv_lex::tokens;
 use fv_parse::{Tree, TreeId, parse};
 use fv_rules::put;
@@ -29,7 +29,7 @@ fn meanings(
     scopes: &Scopes,
     tree: &Tree,
     count: u64,
-    env: u64,
+    env: EnvId,
 ) -> Result<String, AllocError> {
     let mut shortcuts = Shortcuts::new(alloc);
     let mut line = String::new(alloc);
@@ -44,7 +44,7 @@ fn meanings(
 fn outermost_meanings(alloc: Global, tree: &Tree, count: u64) -> Result<String, AllocError> {
     let definitions = Definitions::new(alloc, tree)?;
     let mut scopes = Scopes::new(alloc);
-    let env = scopes.open(tree.root(), 0)?;
+    let env = scopes.open(tree.root(), EnvId::new(0))?;
     meanings(alloc, &definitions, &scopes, tree, count, env)
 }
 
@@ -102,11 +102,11 @@ fn matching_in(alloc: Global, text: &str, n: i32) -> Result<String, AllocError> 
 const DEFINITIONS: &str = "f(0) = 1; f(x) = x; g(y) = y; process = f;";
 
 const MEANINGS: &str =
-    "0 Known(Rules { ruled: Definitions { list: TreeId(14), first: TreeId(3) }, env: 1, count: 0, last: 0 }); \
-    7 Known(Rules { ruled: Definitions { list: TreeId(14), first: TreeId(3) }, env: 1, count: 0, last: 0 }); \
-    14 Known(Abstraction { node: TreeId(11), bound: 0, env: 1 }); \
-    21 Body { body: TreeId(12), env: 1 }; \
-    23 Known(Rules { ruled: Definitions { list: TreeId(14), first: TreeId(3) }, env: 1, count: 0, last: 0 }); ";
+    "0 Known(Rules { ruled: Definitions { list: TreeId(14), first: TreeId(3) }, env: EnvId(1), count: 0, last: 0 }); \
+    7 Known(Rules { ruled: Definitions { list: TreeId(14), first: TreeId(3) }, env: EnvId(1), count: 0, last: 0 }); \
+    14 Known(Abstraction { node: TreeId(11), bound: 0, env: EnvId(1) }); \
+    21 Body { body: TreeId(12), env: EnvId(1) }; \
+    23 Known(Rules { ruled: Definitions { list: TreeId(14), first: TreeId(3) }, env: EnvId(1), count: 0, last: 0 }); ";
 
 #[test]
 fn names_of_definitions(rt: HostRuntime) -> Result<(), Fail> {
@@ -145,13 +145,13 @@ fn patterns_of_an_integer(rt: HostRuntime) -> Result<(), Fail> {
 }
 
 // Binds the names from 200 on to 299, a scope each, to an abstraction that tells how far it is.
-fn bind_hundred(scopes: &mut Scopes, root: TreeId, outer: u64) -> Result<u64, AllocError> {
+fn bind_hundred(scopes: &mut Scopes, root: TreeId, outer: EnvId) -> Result<EnvId, AllocError> {
     let mut env = outer;
     for i in 0..100 {
         let value = Value::Abstraction {
             node: root,
             bound: i,
-            env: 0,
+            env: EnvId::new(0),
         };
         env = scopes.bind(200 + i, value, env)?;
     }
@@ -173,7 +173,7 @@ fn bounds_in(
     definitions: &Definitions,
     scopes: &Scopes,
     defined: u64,
-    env: u64,
+    env: EnvId,
 ) -> Result<Vec<u64>, AllocError> {
     let mut shortcuts = Shortcuts::new(alloc);
     let mut bounds = Vec::new(alloc);
@@ -184,7 +184,7 @@ fn bounds_in(
         }
     }
     if let Meaning::Body { env, .. } = definitions.look_up(scopes, &mut shortcuts, defined, env) {
-        bounds.push(env)?;
+        bounds.push(env.number())?;
     }
     Ok(bounds)
 }
@@ -194,7 +194,7 @@ fn bounds_in(
 fn bound_names(alloc: Global, tree: &Tree) -> Result<Vec<u64>, AllocError> {
     let definitions = Definitions::new(alloc, tree)?;
     let mut scopes = Scopes::new(alloc);
-    let outermost = scopes.open(tree.root(), 0)?;
+    let outermost = scopes.open(tree.root(), EnvId::new(0))?;
     let env = bind_hundred(&mut scopes, tree.root(), outermost)?;
     bounds_in(alloc, &definitions, &scopes, tree.name(0), env)
 }

@@ -6,7 +6,7 @@ ghost use Rattle.fv_parse.specs.Trees.{size_of};
 use fv_diagram::{Diagrams, Node};
 use fv_eval_lookup::{Definitions, Shortcuts};
 use fv_eval_patterns::Trials;
-use fv_eval_scopes::{Binding, Meaning, Numbers, Ruled, Scopes, Value};
+use fv_eval_scopes::{Binding, EnvId, Meaning, Numbers, Ruled, Scopes, Value};
 use fv_lex::tokens;
 use fv_parse::{Tree, TreeId, parse};
 use fv_rules::{EvalRefusal, put};
@@ -122,7 +122,7 @@ fn value(n: u64) -> Value {
     Value::Abstraction {
         node: TreeId::new(n),
         bound: 0,
-        env: 0,
+        env: EnvId::new(0),
     }
 }
 
@@ -157,12 +157,12 @@ fn arguments_come_in_order(rt: HostRuntime) -> Result<(), Fail> {
 }
 
 // Binds 5 to 1, 6 to 2, and 5 to 3.
-fn bind_three(scopes: &mut Scopes) -> Result<u64, AllocError> {
+fn bind_three(scopes: &mut Scopes) -> Result<EnvId, AllocError> {
     let bindings = [(5, 1), (6, 2), (5, 3)].map(|(name, n)| Binding {
         name,
         value: value(n),
     });
-    scopes.bind_all(&bindings, 0)
+    scopes.bind_all(&bindings, EnvId::new(0))
 }
 
 // A name, and the number that its value is told by.
@@ -174,7 +174,7 @@ fn assert_meant(
     definitions: &Definitions,
     scopes: &Scopes,
     shortcuts: &mut Shortcuts,
-    env: u64,
+    env: EnvId,
 ) {
     for (name, n) in &MEANT {
         let meaning = definitions.look_up(scopes, shortcuts, *name, env);

@@ -18,11 +18,11 @@ more c =
     (subst (λ o. IfSome o (λ x. x.ruled ≡ c.args.ruled.now)) c.in-Some.is c.in_ok-index.ensures.ruled) c.rules-rules.ensures.rules c.in_ok-push.ensures.items
 
 pub invariant_of-self-then-i-len : goal.invariant_of-self-then-i-len
-invariant_of-self-then-i-len c = (c.self.invariant.0, more (goal.at.invariant_of-self-then-i-len c).In_ok-push)
+invariant_of-self-then-i-len c = (c.self.invariant.0, more (goal.at.invariant_of-self-then-i-len c).In_ok-push, c.self.invariant.2)
 
 pub invariant_of-self-else-i-len : goal.invariant_of-self-else-i-len
-invariant_of-self-else-i-len c = (c.self.invariant.0, more (goal.at.invariant_of-self-else-i-len c).In_ok-push)
+invariant_of-self-else-i-len c = (c.self.invariant.0, more (goal.at.invariant_of-self-else-i-len c).In_ok-push, c.self.invariant.2)
 
 pub invariant_of-self : goal.invariant_of-self
 invariant_of-self c =
-    (c.self.invariant.0, subst (AreIndexes c.self.inside.tree.now) (sym c.in_err-push.ensures.items) c.self.invariant.1)
+    (c.self.invariant.0, subst (AreIndexes c.self.inside.tree.now) (sym c.in_err-push.ensures.items) c.self.invariant.1, c.self.invariant.2)

@@ -1,6 +1,7 @@
-use Rattle.std.proofs.Common.{arith, sym, subst}
+use Rattle.std.proofs.Common.{◌<◌, ◌≤◌, arith, sym, subst}
 use Rattle.fv_eval_scopes.specs.declared.value.Meaning.TheVariants as meaning
 use Rattle.fv_eval_lookup.specs.declared.shortcuts.Shortcuts.{Shortcuts}
+use Rattle.fv_eval_scopes.specs.Environments.{outer_number}
 use Rattle.fv_eval_scopes.specs.Outward.{SkipsTo}
 use Rattle.fv_eval_lookup.proofs.Lookups.{look_finds, look_stops, look_ends}
 use Rattle.fv_eval_lookup.proofs.lemmas.Skipped.{look_begins_here, skips_one, skips_reach, under_way_on}
@@ -19,14 +20,15 @@ returns-in-Some-in_scope-clause-means c = λ kept.
     look_finds c.in-Some-in_scope.meaning (skips_reach c.args.self.now c.args.scopes.now.scopes c.args.name c.args.env c.outward.at u.whole)
     c.in-Some.ensures c.in-Some-in_scope.ensures
 
-pub returns-then-outer-at-clause-kept : goal.returns-then-outer-at-clause-kept
-returns-then-outer-at-clause-kept c = λ kept. (c.outward.invariant kept).kept
+pub returns-then-number-clause-kept : goal.returns-then-number-clause-kept
+returns-then-number-clause-kept c = λ kept. (c.outward.invariant kept).kept
 
-pub returns-then-outer-at-clause-means : goal.returns-then-outer-at-clause-means
-returns-then-outer-at-clause-means c = λ kept.
+pub returns-then-number-clause-means : goal.returns-then-number-clause-means
+returns-then-number-clause-means c = λ kept.
     let u = c.outward.invariant kept in
+    let far : c.outward.at ≤ c.outer_of-outer.result = omega (arith, c.if-number.true, c.number.ensures, c.number-in-Some.ensures) in
     look_stops meaning.Unknown (skips_reach c.args.self.now c.args.scopes.now.scopes c.args.name c.args.env c.outward.at u.whole)
-    c.in-Some.ensures c.outer_of-outer.ensures c.if-outer-at.true
+    c.in-Some.ensures c.outer_of-outer.ensures far
 
 pub outward-preserved : goal.outward-preserved
 outward-preserved c = λ kept.
@@ -35,7 +37,8 @@ outward-preserved c = λ kept.
     let name = c.args.name in
     let at = c.outward.at in
     let u = c.outward.invariant kept in
-    let one = skips_one p scopes name at c.in-Some.scope (sym c.in-Some.ensures) (omega (arith, c.if-outer-at.false, c.outer_of-outer.ensures))
+    let less : outer_number c.in-Some.scope < at = omega (arith, c.if-number.false, c.number.ensures, c.number-in-Some.ensures, c.outer_of-outer.ensures) in
+    let one = skips_one p scopes name at c.in-Some.scope (sym c.in-Some.ensures) less
     c.in_default-in_scope.ensures in
     let foot = subst (SkipsTo p scopes name at) (sym c.outer_of-outer.ensures) one in
     let next = c.next-at.ensures.skips u.kept.1 foot (c.outward-direct.ensures p scopes u.kept.0) in

@@ -16,4 +16,5 @@ invariant_of-definitions c =
         each = λ i d l. so.each i d (omega (arith, l, so.many));
       },
       λ k d l. absurd (omega (arith, l, ap length c.new-2.ensures.items)),
+      c.in_ok-parameters.ensures,
     )

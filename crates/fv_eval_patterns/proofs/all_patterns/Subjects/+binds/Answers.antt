@@ -1,4 +1,4 @@
-use Rattle.std.proofs.Common.{◌≡◌, ◌<◌, IfSome, drop, length, rules, sym, subst, arith}
+use Rattle.std.proofs.Common.{◌≡◌, IfSome, drop, length, rules, sym, subst, arith}
 use Rattle.std.specs.Bool.{MatchBool}
 use Rattle.fv_eval_scopes.proofs.lemmas.Added.{adds_longer, adds_on}
 use Rattle.fv_eval_patterns.specs.Patterns.{IsPair}
@@ -10,8 +10,8 @@ use Rattle.fv_eval_patterns.proofs.all_patterns.Subjects.+binds.Goals as goal
 pub binds-requires-2 : goal.binds-requires-2
 binds-requires-2 t c =
     let p = c.args.self.now.tree.now in
-    let old = c.args.diagrams.now in
-    let mid = c.binds.new.diagrams in
+    let old = c.args.matching.now.diagrams.now in
+    let mid = c.binds.new.matching.diagrams.now in
     let halves : AreHalves p old c.args.pair c.in-Some-2.halves =
     subst (λ o. IfSome o (AreHalves p old c.args.pair)) c.in-Some-2.is c.in_ok-halves.ensures.halves in
     let pair : IsPair p mid c.in-Some-2.halves.1 = pair_stays p old mid c.in-Some-2.halves.1 c.in_ok-binds.ensures.adds halves.second in
@@ -19,38 +19,42 @@ binds-requires-2 t c =
 
 pub returns-in_err-binds-2-clause-adds : goal.returns-in_err-binds-2-clause-adds
 returns-in_err-binds-2-clause-adds t c =
-    adds_on c.args.diagrams.now c.binds.new.diagrams c.binds-2.new.diagrams c.in_ok-binds.ensures.adds c.in_err-binds-2.ensures.adds
+    adds_on c.args.matching.now.diagrams.now c.binds.new.matching.diagrams.now c.binds-2.new.matching.diagrams.now
+    c.in_ok-binds.ensures.adds c.in_err-binds-2.ensures.adds
 
 pub returns-then-not-branch-2-clause-adds : goal.returns-then-not-branch-2-clause-adds
 returns-then-not-branch-2-clause-adds t c =
-    adds_on c.args.diagrams.now c.binds.new.diagrams c.binds-2.new.diagrams c.in_ok-binds.ensures.adds c.in_ok-binds-2.ensures.adds
+    adds_on c.args.matching.now.diagrams.now c.binds.new.matching.diagrams.now c.binds-2.new.matching.diagrams.now
+    c.in_ok-binds.ensures.adds c.in_ok-binds-2.ensures.adds
 
 pub returns-then-not-branch-2-clause-answers : goal.returns-then-not-branch-2-clause-answers
 returns-then-not-branch-2-clause-answers t c =
     let p = c.args.self.now.tree.now in
-    let old = c.args.diagrams.now in
-    let mid = c.binds.new.diagrams in
+    let old = c.args.matching.now.diagrams.now in
+    let mid = c.binds.new.matching.diagrams.now in
     let lr = c.in-Some-2.halves in
     let halves : AreHalves p old c.args.pair lr = subst (λ o. IfSome o (AreHalves p old c.args.pair)) c.in-Some-2.is c.in_ok-halves.ensures.halves in
     let misses : Misses p mid lr.1 =
-    subst (λ b. MatchBool b (AddsBound p c.binds-2.new.diagrams lr.1 c.binds.new.found.items c.binds-2.new.found.items) (Misses p mid lr.1))
+    subst (λ b. MatchBool b (AddsBound p c.binds-2.new.matching.diagrams.now lr.1 c.binds.new.found.items c.binds-2.new.found.items) (Misses p mid lr.1))
     c.if-not-branch-2.true c.in_ok-binds-2.ensures.answers in
     second_misses p old mid c.args.pair lr halves c.in_ok-binds.ensures.adds misses
 
 pub returns-in_err-keep_few-clause-adds : goal.returns-in_err-keep_few-clause-adds
 returns-in_err-keep_few-clause-adds t c =
-    adds_on c.args.diagrams.now c.binds.new.diagrams c.binds-2.new.diagrams c.in_ok-binds.ensures.adds c.in_ok-binds-2.ensures.adds
+    adds_on c.args.matching.now.diagrams.now c.binds.new.matching.diagrams.now c.binds-2.new.matching.diagrams.now
+    c.in_ok-binds.ensures.adds c.in_ok-binds-2.ensures.adds
 
 pub returns-clause-adds : goal.returns-clause-adds
 returns-clause-adds t c =
-    adds_on c.args.diagrams.now c.binds.new.diagrams c.binds-2.new.diagrams c.in_ok-binds.ensures.adds c.in_ok-binds-2.ensures.adds
+    adds_on c.args.matching.now.diagrams.now c.binds.new.matching.diagrams.now c.binds-2.new.matching.diagrams.now
+    c.in_ok-binds.ensures.adds c.in_ok-binds-2.ensures.adds
 
 pub returns-clause-answers : goal.returns-clause-answers
 returns-clause-answers t c =
     let p = c.args.self.now.tree.now in
-    let old = c.args.diagrams.now in
-    let mid = c.binds.new.diagrams in
-    let new = c.binds-2.new.diagrams in
+    let old = c.args.matching.now.diagrams.now in
+    let mid = c.binds.new.matching.diagrams.now in
+    let new = c.binds-2.new.matching.diagrams.now in
     let lr = c.in-Some-2.halves in
     let before = c.args.found.now.items in
     let between = c.binds.new.found.items in
@@ -65,9 +69,9 @@ returns-clause-answers t c =
 pub returns-in_err-keep_few-clause-recalls : goal.returns-in_err-keep_few-clause-recalls
 returns-in_err-keep_few-clause-recalls t c =
     let p = c.args.self.now.tree.now in
-    let old = c.args.diagrams.now in
-    let mid = c.binds.new.diagrams in
-    let new = c.binds-2.new.diagrams in
+    let old = c.args.matching.now.diagrams.now in
+    let mid = c.binds.new.matching.diagrams.now in
+    let new = c.binds-2.new.matching.diagrams.now in
     let lr = c.in-Some-2.halves in
     let before = c.args.found.now.items in
     let between = c.binds.new.found.items in
@@ -87,9 +91,9 @@ returns-in_err-keep_few-clause-recalls t c =
 pub returns-clause-recalls : goal.returns-clause-recalls
 returns-clause-recalls t c =
     let p = c.args.self.now.tree.now in
-    let old = c.args.diagrams.now in
-    let mid = c.binds.new.diagrams in
-    let new = c.binds-2.new.diagrams in
+    let old = c.args.matching.now.diagrams.now in
+    let mid = c.binds.new.matching.diagrams.now in
+    let new = c.binds-2.new.matching.diagrams.now in
     let lr = c.in-Some-2.halves in
     let before = c.args.found.now.items in
     let between = c.binds.new.found.items in

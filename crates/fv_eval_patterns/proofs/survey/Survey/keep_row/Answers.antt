@@ -1,4 +1,4 @@
-use Rattle.std.proofs.Common.{List, [], ◌∷◌, ◌++◌, ℕ, sym, subst, ap, ◌∙◌, append-nil}
+use Rattle.std.proofs.Common.{[], ◌∷◌, ◌++◌, sym, subst, ap, ◌∙◌, append-nil}
 use Rattle.fv_eval_patterns.specs.Surveyed.{Surveyed}
 use Rattle.fv_eval_patterns.specs.Shapes.{IsSurvey}
 use Rattle.fv_eval_patterns.proofs.Surveys.{survey_more}

@@ -1,4 +1,4 @@
-use Rattle.std.proofs.Common.{sym, subst, ap}
+use Rattle.std.proofs.Common.{sym, subst}
 use Rattle.fv_eval_patterns.specs.Surveyed.{Surveyed}
 use Rattle.fv_eval_patterns.specs.Shapes.{IsShapeRow, IsSurvey}
 use Rattle.fv_eval_patterns.proofs.Surveys.{steps_put}

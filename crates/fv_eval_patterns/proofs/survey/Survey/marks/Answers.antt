@@ -1,4 +1,4 @@
-use Rattle.std.proofs.Common.{arith, subst, sym, ap, ◌≤◌, length}
+use Rattle.std.proofs.Common.{arith, subst, ap, ◌≤◌, length}
 use Rattle.fv_eval_patterns.proofs.Surveys.{marked_past}
 use Rattle.fv_eval_patterns.proofs.survey.Survey.marks.Goals as goal
 

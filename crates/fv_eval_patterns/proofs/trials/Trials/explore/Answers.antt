@@ -1,5 +1,4 @@
 use Rattle.std.proofs.Common.{sym, subst}
-use Rattle.fv_eval_patterns.specs.Remembered.{Remembered}
 use Rattle.fv_eval_patterns.specs.Trials.{Recalls}
 use Rattle.fv_eval_patterns.proofs.trials.Trials.explore.Goals as goal
 

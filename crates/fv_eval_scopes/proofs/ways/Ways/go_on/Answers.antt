@@ -27,6 +27,6 @@ returns-clause-ok c scopes s key outer below h =
     let way : Way = c.outward-way.result in
     let out = c.outward-way.ensures scopes h in
     let kept : IsKept scopes s c.args.key c.args.outer = record { has = key; around = outer; below = below } in
-    keeps_on scopes s old new c.args.key c.args.outer c.first_number-here.result c.in_ok-root.root way c.in_ok-root.ensures.grown
-    c.in_ok-push.ensures.items (c.first_number-here.ensures ∙ ap first_number (omega (arith, c.len.ensures, old.ways.ok.0))) kept out
+    keeps_on scopes s old new c.args.key c.args.outer c.number.result c.in_ok-root.root way c.in_ok-root.ensures.grown
+    c.in_ok-push.ensures.items (c.number.ensures ∙ c.first_number-here.ensures ∙ ap first_number (omega (arith, c.len.ensures, old.ways.ok.0))) kept out
     (c.in_ok-root.ensures.with out.there) h

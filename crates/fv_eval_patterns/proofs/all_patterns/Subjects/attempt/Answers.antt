@@ -14,20 +14,20 @@ use Rattle.fv_eval_patterns.specs.Patterns.{are_parts, ArePartsOf}
 use Rattle.fv_eval_patterns.proofs.lemmas.Matched.{node_is}
 use Rattle.fv_eval_patterns.proofs.lemmas.Matched.{MatchesNothing, other_pattern, other_refuses}
 use Rattle.fv_eval_patterns.proofs.lemmas.LongPatterns.{BothTried, nothing_left, number_said, parts_split, said}
-use Rattle.fv_eval_patterns.proofs.long_patterns.attempt.Goals as goal
+use Rattle.fv_eval_patterns.proofs.all_patterns.Subjects.attempt.Goals as goal
 
 pub returns-in-Some-clause-splits : goal.returns-in-Some-clause-splits
 returns-in-Some-clause-splits c =
-    let p = c.args.tree.now in
+    let p = c.args.self.now.tree.now in
     let a = c.args.diagrams.now in
     said p a c.args.pair c.args.tasks.now.items c.in-Some.may (c.in-Some.ensures p a c.requires.recalls)
 
 pub returns-in-Named-clause-splits : goal.returns-in-Named-clause-splits
-returns-in-Named-clause-splits c = nothing_left c.args.tree.now c.args.diagrams.now c.args.pair c.args.tasks.now.items
+returns-in-Named-clause-splits c = nothing_left c.args.self.now.tree.now c.args.diagrams.now c.args.pair c.args.tasks.now.items
 
 pub returns-in_ok-same-in-Number-clause-splits : goal.returns-in_ok-same-in-Number-clause-splits
 returns-in_ok-same-in-Number-clause-splits c =
-    let p = c.args.tree.now in
+    let p = c.args.self.now.tree.now in
     let f : SFits w32 c.literal-k.result = search rules in
     let d = diagram_of c.args.diagrams.now c.args.pair.diagram in
     let is = node_is p c.args.pair.pattern c.node.ensures.tree c.in-Number.is in
@@ -37,7 +37,7 @@ returns-in_ok-same-in-Number-clause-splits c =
 
 pub returns-in_ok-same-in-Negative-clause-splits : goal.returns-in_ok-same-in-Negative-clause-splits
 returns-in_ok-same-in-Negative-clause-splits c =
-    let p = c.args.tree.now in
+    let p = c.args.self.now.tree.now in
     let f : SFits w32 c.negative_literal-k.result = search rules in
     let d = diagram_of c.args.diagrams.now c.args.pair.diagram in
     let is = node_is p c.args.pair.pattern c.node.ensures.tree c.in-Negative.is in
@@ -47,7 +47,7 @@ returns-in_ok-same-in-Negative-clause-splits c =
 
 pub returns-in_ok-push-in-Some-parts-3-clause-splits : goal.returns-in_ok-push-in-Some-parts-3-clause-splits
 returns-in_ok-push-in-Some-parts-3-clause-splits c =
-    let p = c.args.tree.now in
+    let p = c.args.self.now.tree.now in
     let a = c.args.diagrams.now in
     let x = c.args.pair in
     let b = c.in-Binary in
@@ -69,7 +69,7 @@ returns-in_ok-push-in-Some-parts-3-clause-splits c =
 
 pub returns-in_default : goal.returns-in_default
 returns-in_default c =
-    let p = c.args.tree.now in
+    let p = c.args.self.now.tree.now in
     let other = c.in_default in
     let none : MatchesNothing c.node.result.now =
     record { name = other.not-Named; number = other.not-Number; negative = other.not-Negative; composition = other.not-Binary } in

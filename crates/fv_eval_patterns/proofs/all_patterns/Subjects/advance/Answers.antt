@@ -12,12 +12,12 @@ use Rattle.fv_parse.specs.headline.Trees.{PartsBelow}
 use Rattle.fv_parse.specs.Trees.{start_in}
 use Rattle.fv_eval_patterns.proofs.lemmas.Matched.{node_is}
 use Rattle.fv_eval_patterns.proofs.lemmas.Matched.{IsPaired, BothWait, MatchesNothing, name_leaves, number_answers, parts_leave, other_refuses, other_pattern}
-use Rattle.fv_eval_patterns.proofs.value_patterns.advance.Goals as goal
+use Rattle.fv_eval_patterns.proofs.all_patterns.Subjects.advance.Goals as goal
 
 pub returns-in_ok-bind-in-Named-clause-matched : goal.returns-in_ok-bind-in-Named-clause-matched
 returns-in_ok-bind-in-Named-clause-matched c =
     name_leaves c.args.pending.now.items (record {
-      is = node_is c.args.tree.now c.args.pair.pattern c.node.ensures.tree c.in-Named.is;
+      is = node_is c.args.self.now.tree.now c.args.pair.pattern c.node.ensures.tree c.in-Named.is;
       adds = c.in_ok-settled-in-Named.ensures.adds;
       there = c.in_ok-settled-in-Named.ensures.inside;
       settled = c.in_ok-settled-in-Named.ensures.tree;
@@ -26,7 +26,7 @@ returns-in_ok-bind-in-Named-clause-matched c =
 
 pub returns-in_ok-same-in-Number-clause-matched : goal.returns-in_ok-same-in-Number-clause-matched
 returns-in_ok-same-in-Number-clause-matched c =
-    let p = c.args.tree.now in
+    let p = c.args.self.now.tree.now in
     let f : SFits w32 c.literal-k.result = search rules in
     let d = diagram_of c.args.diagrams.now c.args.pair.diagram in
     let is = node_is p c.args.pair.pattern c.node.ensures.tree c.in-Number.is in
@@ -36,7 +36,7 @@ returns-in_ok-same-in-Number-clause-matched c =
 
 pub returns-in_ok-same-in-Negative-clause-matched : goal.returns-in_ok-same-in-Negative-clause-matched
 returns-in_ok-same-in-Negative-clause-matched c =
-    let p = c.args.tree.now in
+    let p = c.args.self.now.tree.now in
     let f : SFits w32 c.negative_literal-k.result = search rules in
     let d = diagram_of c.args.diagrams.now c.args.pair.diagram in
     let is = node_is p c.args.pair.pattern c.node.ensures.tree c.in-Negative.is in
@@ -46,7 +46,7 @@ returns-in_ok-same-in-Negative-clause-matched c =
 
 pub returns-in_ok-push-in-Some-2-clause-matched : goal.returns-in_ok-push-in-Some-2-clause-matched
 returns-in_ok-push-in-Some-2-clause-matched c =
-    let p = c.args.tree.now in
+    let p = c.args.self.now.tree.now in
     let a = c.args.diagrams.now in
     let x = c.args.pair in
     let b = c.in-Binary in
@@ -66,7 +66,7 @@ returns-in_ok-push-in-Some-2-clause-matched c =
 
 pub returns-in_default-clause-matched : goal.returns-in_default-clause-matched
 returns-in_default-clause-matched c =
-    let p = c.args.tree.now in
+    let p = c.args.self.now.tree.now in
     let other = c.in_default in
     let none : MatchesNothing c.node.result.now =
     record { name = other.not-Named; number = other.not-Number; negative = other.not-Negative; composition = other.not-Binary } in

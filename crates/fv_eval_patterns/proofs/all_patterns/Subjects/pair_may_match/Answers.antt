@@ -6,11 +6,12 @@ use Rattle.fv_eval_patterns.specs.declared.long_patterns.Task.TheVariants.{Try}
 use Rattle.fv_eval_patterns.specs.Trials.{AllMiss}
 use Rattle.fv_eval_patterns.proofs.lemmas.LongPatterns.{attempts_begin, attempts_go_on, leads_next, may_not, may_split}
 use Rattle.fv_eval_patterns.proofs.lemmas.LongPatterns.{task_taken, whole_misses}
-use Rattle.fv_eval_patterns.proofs.long_patterns.pair_may_match.Goals as goal
+use Rattle.fv_eval_patterns.proofs.all_patterns.Subjects.pair_may_match.Goals as goal
 
 pub loop-task-init : goal.loop-task-init
 loop-task-init c =
-    attempts_begin c.args.tree.now c.args.diagrams.now c.explore.new.numbers c.explore.new.self c.args.whole c.new-tasks.result.items c.push.new.self.items
+    attempts_begin c.args.self.now.tree.now c.args.diagrams.now c.explore.new.numbers c.explore.new.self c.args.whole c.new-tasks.result.items
+    c.push.new.self.items
     c.in_ok-explore.ensures.known c.in_ok-explore.ensures.recalls c.requires.whole c.new-tasks.ensures.items c.in_ok-push.ensures.items
 
 pub attempt-requires-clause-pair : goal.attempt-requires-clause-pair
@@ -20,7 +21,7 @@ attempt-requires-clause-pair c =
 
 pub returns-in_err-note_misses-in-Try-clause-recalls : goal.returns-in_err-note_misses-in-Try-clause-recalls
 returns-in_err-note_misses-in-Try-clause-recalls c =
-    let p = c.args.tree.now in
+    let p = c.args.self.now.tree.now in
     let a = c.args.diagrams.now in
     let x = c.in-Try.pair in
     let next =
@@ -32,7 +33,7 @@ returns-in_err-note_misses-in-Try-clause-recalls c =
 
 pub returns-then-not-branch-clause-recalls : goal.returns-then-not-branch-clause-recalls
 returns-then-not-branch-clause-recalls c =
-    let p = c.args.tree.now in
+    let p = c.args.self.now.tree.now in
     let a = c.args.diagrams.now in
     let x = c.in-Try.pair in
     let next =
@@ -44,7 +45,7 @@ returns-then-not-branch-clause-recalls c =
 
 pub returns-then-not-branch-clause-says : goal.returns-then-not-branch-clause-says
 returns-then-not-branch-clause-says c =
-    let p = c.args.tree.now in
+    let p = c.args.self.now.tree.now in
     let a = c.args.diagrams.now in
     let x = c.in-Try.pair in
     let next =
@@ -55,7 +56,7 @@ returns-then-not-branch-clause-says c =
 
 pub loop-task-preserved : goal.loop-task-preserved
 loop-task-preserved c =
-    let p = c.args.tree.now in
+    let p = c.args.self.now.tree.now in
     let a = c.args.diagrams.now in
     let x = c.in-Try.pair in
     let split = may_split p a x c.pop.new.self.items c.attempt.new.tasks.items c.in_ok-attempt-in-Try.field-0 c.if-not-branch.false
