@@ -27,8 +27,9 @@ use Rattle.fv_engine_render.specs.headline.Blocks.{AreBlocks, block_at, to_chang
 use Rattle.fv_engine_render.specs.Stops.{IsAct}
 use Rattle.fv_engine_render.specs.declared.blocks.RunSizes.{RunSizes}
 use Rattle.fv_file_tape.specs.Tapes.{Files, IsInput, AreHeard, Streamed, CannotBegin, CannotHear, CannotGoOn, CannotSay, StopsIn}
-use Rattle.fv_file_tape.specs.Tapes.{channels_of, layout_of, head_of, front}
-use Rattle.fv_file_tape.specs.declared.samples.InputSamples.{InputSamples}
+use Rattle.fv_file_tape.specs.headline.Tapes.{layout_of}
+use Rattle.fv_file_tape.specs.Tapes.{channels_of, head_of, front}
+use Rattle.fv_file_tape.specs.declared.incoming.Incoming.{Incoming}
 use Rattle.fv_file_tape.specs.declared.file_tape.OutputHead.{OutputHead}
 use Rattle.fv_file_tape.specs.declared.file_tape.Stop.{Stop}
 use Rattle.fv_file_tape.specs.declared.file_tape.Stop.TheVariants as stop
@@ -161,14 +162,14 @@ module _ {d : Diagram} {t : Files} (p : Plays d t) (c : ℕ → Stream) (a : Des
   -- ---- it stopped
 
   -- what is there is not enough for the next block
-  record Short (i : InputSamples) (f n : ℕ) (h : List ℤ) : Type 0 where
+  record Short (i : Incoming) (f n : ℕ) (h : List ℤ) : Type 0 where
     is : t.input ≡ Some i
     fresh : t.held ≡ None
     range : IsInput i
     long : length h ≡ f * i.channels
     less : length (a.left Input) < length h * (i.bits / 8) + n * frame_size i.channels i.bits
 
-  short : (i : InputSamples) (f n : ℕ) (h : List ℤ) → Short i f n h → length X < f + n
+  short : (i : Incoming) (f n : ℕ) (h : List ℤ) → Short i f n h → length X < f + n
   short i f n h k =
       let frame = frame_size i.channels i.bits in
       let left = a.left Input in
@@ -224,14 +225,14 @@ module _ {d : Diagram} {t : Files} (p : Plays d t) (c : ℕ → Stream) (a : Des
           );
         })
       where
-        none_taken : (o : Option InputSamples) (held : Option (List ℕ)) → b.left Input ≡ a.left Input → AreTakenOf o held f (a.left Input) (b.left Input)
+        none_taken : (o : Option Incoming) (held : Option (List ℕ)) → b.left Input ≡ a.left Input → AreTakenOf o held f (a.left Input) (b.left Input)
         none_taken None held left = left
         none_taken (Some i) None left =
             let z : 0 ≡ f * frame_size i.channels i.bits = sym (ap (λ n. n * frame_size i.channels i.bits) none ∙ omega arith) in
             left ∙ ap (λ n. drop n (a.left Input)) z
         none_taken (Some i) (Some bytes) left = left
 
-    hear_stops : (f n : ℕ) (h w : List ℤ) (e : Stop) (i : InputSamples) → HasRun f h → (f < s.frames) × (n ≡ block_at s.block s.frames changes f)
+    hear_stops : (f n : ℕ) (h w : List ℤ) (e : Stop) (i : Incoming) → HasRun f h → (f < s.frames) × (n ≡ block_at s.block s.frames changes f)
         × (w ≡ answer_on d c f h) → t.input ≡ Some i → t.held ≡ None → CannotHear t i a b h w n e → StopsAt d c changes s t f a b e
     hear_stops f n h w e i r at is fresh k =
         let range : IsInput i = p.input i is in

@@ -10,8 +10,9 @@ use Rattle.fv_diagram.specs.Frames.{Frame, table, rows}
 use Rattle.fv_pcm.specs.Coded.{samples_in}
 use Rattle.fv_pcm.specs.headline.Sizes.{frame_size, stated_frames, whole_bytes, present}
 use Rattle.fv_pcm.specs.Sizes.{SamplesFollow, frames_in}
-use Rattle.fv_file_tape.specs.Tapes.{IsInput, AreTaken, AreHeard, channels_of, layout_of}
-use Rattle.fv_file_tape.specs.declared.samples.InputSamples.{InputSamples}
+use Rattle.fv_file_tape.specs.headline.Tapes.{layout_of}
+use Rattle.fv_file_tape.specs.Tapes.{IsInput, AreTaken, AreHeard, channels_of}
+use Rattle.fv_file_tape.specs.declared.incoming.Incoming.{Incoming}
 use Rattle.fv_file_tape.proofs.lemmas.Heard.{rows_fit, table_add}
 use Rattle.fv_engine_render.specs.Files.{AreTakenOf, bare, frames_at}
 
@@ -26,12 +27,12 @@ take_table n all g h =
 -- ---- numbers
 
 -- The frames in these bytes are as many as whole frames fit into them.
-pub frames_count : (i : InputSamples) (bytes : List ℕ)
+pub frames_count : (i : Incoming) (bytes : List ℕ)
     → length (frames_in i.coding (bare i) bytes) ≡ length (present (bare i) bytes) / frame_size i.channels i.bits
 frames_count i bytes = length_table _ _
 
 -- no more than are stated
-whole_few : (i : InputSamples) (bytes : List ℕ) → IsInput i → length (frames_in i.coding (bare i) bytes) ≤ stated_frames (layout_of i)
+whole_few : (i : Incoming) (bytes : List ℕ) → IsInput i → length (frames_in i.coding (bare i) bytes) ≤ stated_frames (layout_of i)
 whole_few i bytes r =
     let size = frame_size i.channels i.bits in
     let got = length-take (whole_bytes (bare i)) bytes in
@@ -42,7 +43,7 @@ whole_few i bytes r =
 
 -- ---- the first frames that are there
 
-left_frames : SamplesFollow → (i : InputSamples) (bytes after : List ℕ) (h : List ℤ) (f : ℕ) → IsInput i → AreTaken i.coding i.bits h bytes after
+left_frames : SamplesFollow → (i : Incoming) (bytes after : List ℕ) (h : List ℤ) (f : ℕ) → IsInput i → AreTaken i.coding i.bits h bytes after
     → length h ≡ f * i.channels → f ≤ stated_frames (layout_of i) → rows i.channels f h ≡ take f (frames_in i.coding (bare i) bytes)
 left_frames law i bytes after h f r t long few =
     let frame = frame_size i.channels i.bits in
@@ -57,7 +58,7 @@ left_frames law i bytes after h f r t long few =
     t.are ∙ ap (λ k. samples_in i.coding i.bits k bytes) long ∙ ap (λ k. samples_in i.coding i.bits (f * i.channels) (drop k bytes)) (sym z) in
     ap (rows i.channels f) said ∙ law i.coding (bare i) bytes 0 f r.some r.bits part
 
-pub heard_frames : SamplesFollow → (o : Option InputSamples) (held : Option (List ℕ)) (stated f : ℕ) (h : List ℤ) (before after : List ℕ) → ForSome o IsInput
+pub heard_frames : SamplesFollow → (o : Option Incoming) (held : Option (List ℕ)) (stated f : ℕ) (h : List ℤ) (before after : List ℕ) → ForSome o IsInput
     → ForSome o (λ i. stated ≡ stated_frames (layout_of i)) → AreHeard o held h before after → length h ≡ f * channels_of o → f ≤ stated
     → rows (channels_of o) f h ≡ take f (frames_at o held stated before)
 heard_frames law None held stated f h before after r s a long few = sym (take_table {A = Frame} f stated (λ t. []) few)
@@ -67,7 +68,7 @@ heard_frames law (Some i) (Some bytes) stated f h before after r s a long few =
     left_frames law i bytes _ h f (r i refl) a.0 long (subst (λ (n : ℕ). f ≤ n) (s i refl) few)
 
 -- there are no more than are stated
-pub frames_few : (o : Option InputSamples) (held : Option (List ℕ)) (stated : ℕ) (left : List ℕ) → ForSome o IsInput
+pub frames_few : (o : Option Incoming) (held : Option (List ℕ)) (stated : ℕ) (left : List ℕ) → ForSome o IsInput
     → ForSome o (λ i. stated ≡ stated_frames (layout_of i)) → length (frames_at o held stated left) ≤ stated
 frames_few None held stated left r s = let e = length_table {A = Frame} stated (λ t. []) in omega (arith, e)
 frames_few (Some i) None stated left r s = subst (λ (n : ℕ). length (frames_in i.coding (bare i) left) ≤ n) (sym (s i refl)) (whole_few i left (r i refl))
@@ -75,7 +76,7 @@ frames_few (Some i) (Some bytes) stated left r s =
     subst (λ (n : ℕ). length (frames_in i.coding (bare i) bytes) ≤ n) (sym (s i refl)) (whole_few i bytes (r i refl))
 
 -- of the bytes that are left, just those of the frames were taken
-pub frames_taken : (o : Option InputSamples) (held : Option (List ℕ)) (f : ℕ) (h : List ℤ) (before after : List ℕ) → AreHeard o held h before after
+pub frames_taken : (o : Option Incoming) (held : Option (List ℕ)) (f : ℕ) (h : List ℤ) (before after : List ℕ) → AreHeard o held h before after
     → length h ≡ f * channels_of o → AreTakenOf o held f before after
 frames_taken None held f h before after a long = a.1
 frames_taken (Some i) None f h before after a long =

@@ -17,19 +17,19 @@ use Rattle.fv_control.specs.declared.script.Change.{Change}
 use Rattle.fv_engine_render.specs.declared.blocks.RunSizes.{RunSizes}
 use Rattle.fv_file_tape.specs.headline.Tapes.{HasBegun, KeepsOutput}
 use Rattle.fv_file_tape.specs.Tapes.{Files, Streams, CannotSay, head_of}
-use Rattle.fv_file_tape.specs.declared.samples.InputSamples.{InputSamples}
+use Rattle.fv_file_tape.specs.declared.incoming.Incoming.{Incoming}
 use Rattle.fv_file_tape.specs.declared.file_tape.OutputHead.{OutputHead}
 use Rattle.fv_file_tape.specs.declared.file_tape.Stop.{Stop}
 use Rattle.fv_file_tape.specs.declared.file_tape.Stop.TheVariants as stop
 use Rattle.fv_engine_render.specs.headline.Files.{IsCutAt}
 
 -- the layout of samples that nothing stands before
-abbrev pub bare : InputSamples → Layout
-bare i = record { channels = i.channels; bits = i.bits; size = i.size; place = 0 }
+abbrev pub bare : Incoming → Layout
+bare i = record { channels = i.channels; bits = i.bits; size = i.data_bytes; place = 0 }
 
 -- The whole frames that are there of an input: in the bytes that are left of it, or in those that were read before. Without an
 -- input there are as many frames of no samples as are stated.
-abbrev pub frames_at : Option InputSamples → (held : Option (List ℕ)) → (stated : ℕ) → (left : List ℕ) → List Frame
+abbrev pub frames_at : Option Incoming → (held : Option (List ℕ)) → (stated : ℕ) → (left : List ℕ) → List Frame
 frames_at None held stated left = table stated (λ t. [])
 frames_at (Some i) None stated left = frames_in i.coding (bare i) left
 frames_at (Some i) (Some bytes) stated left = frames_in i.coding (bare i) bytes
@@ -39,7 +39,7 @@ abbrev pub frames_of : Files → (left : List ℕ) → List Frame
 frames_of t left = frames_at t.input t.held t.stated left
 
 -- this many frames were taken of the bytes that were left of an input
-abbrev pub AreTakenOf : Option InputSamples → (held : Option (List ℕ)) → (frames : ℕ) → (before after : List ℕ) → Type 0
+abbrev pub AreTakenOf : Option Incoming → (held : Option (List ℕ)) → (frames : ℕ) → (before after : List ℕ) → Type 0
 AreTakenOf None held n before after = after ≡ before
 AreTakenOf (Some i) None n before after = after ≡ drop (n * frame_size i.channels i.bits) before
 AreTakenOf (Some i) (Some bytes) n before after = after ≡ before
@@ -67,7 +67,7 @@ pub record HasPlayed (d : Diagram) (c : ℕ → Stream) (t : Files) (old new : D
 
 -- The input ends within the frames that are stated: the output has what the blocks up to frame g make, which are those that lie
 -- wholly within the frames that are there.
-pub record IsCut (d : Diagram) (c : ℕ → Stream) (changes : List Change) (s : RunSizes) (t : Files) (i : InputSamples) (g place : ℕ) (old new : DeskState)
+pub record IsCut (d : Diagram) (c : ℕ → Stream) (changes : List Change) (s : RunSizes) (t : Files) (i : Incoming) (g place : ℕ) (old new : DeskState)
     : Type 0 where
   pub cut : IsCutAt s.block s.frames changes (length (frames_of t (old.left Input))) g
   pub short : length (frames_of t (old.left Input)) < s.frames
@@ -88,7 +88,7 @@ IsStopFor d c changes s t g old new stop.Read =
     × (IsTrue old.tells → (g < t.stated) × (new.written Output ≡ answered_to d c t g old))
 -- its end
 IsStopFor d c changes s t g old new (stop.End place) =
-    HasBegun old new × KeepsFaults old new × (i : InputSamples) × (t.input ≡ Some i) × (t.held ≡ None)
+    HasBegun old new × KeepsFaults old new × (i : Incoming) × (t.input ≡ Some i) × (t.held ≡ None)
     × (IsTrue old.tells → IsCut d c changes s t i g place old new)
 -- a fault of the output, where it was not sure that no call fails and there is room for all that is answered
 IsStopFor d c changes s t g old new stop.Write =

@@ -43,12 +43,19 @@ pub struct Ready {
     pub said: Vec<i32>,
 }
 
-/// What is played: how many inputs and outputs it has, and its controls.
+/// What is played, and how.
 #[derive(Clone, Copy)]
-pub struct Played<'c> {
+pub struct Played<'c, 's> {
+    /// How many inputs it has, and samples a frame of what is heard.
     pub inputs: u32,
+    /// How many outputs it has, and samples a frame of what is said.
     pub outputs: u32,
+    /// Its controls, by their numbers.
     pub controls: &'c [ControlInfo],
+    /// How the controls change, in the order of their frames.
+    pub changes: &'s [Change],
+    /// The frames of the run, and the sizes that are asked for.
+    pub sizes: RunSizes,
 }
 
 /// Takes all the memory without which a run of a diagram cannot go on.
@@ -109,50 +116,48 @@ fn blank_samples(alloc: Global, frames: u32, width: usize) -> Result<Vec<i32>, A
 pub fn render_tape<R: Threads + Wait + Sync, G: Gate + Sync, W, T: Tape<W>>(
     rt: &R,
     alloc: Global,
-    played: &Played<'_>,
-    changes: &[Change],
-    sizes: &RunSizes,
+    played: &Played<'_, '_>,
     mut ready: Ready,
     tape: &mut T,
     world: &mut W,
     gate: &mut G,
 ) -> Result<Ran, T::Stop>
     requires bounded { All IsBounded played.now.controls.now }
-    requires order { NeverFall 0 changes.now }
-    requires lawful { AllByRecursion (IsOfControls played.now.controls.now) changes.now }
-    requires sizes { CanHave sizes.now }
+    requires order { NeverFall 0 played.now.changes.now }
+    requires lawful { AllByRecursion (IsOfControls played.now.controls.now) played.now.changes.now }
+    requires sizes { CanHave played.now.sizes }
     // All is set for some diagram, and what follows is so for each for which it is.
-    requires ready { (d : Diagram) × IsSetToPlay d played.now sizes.now ready }
+    requires ready { (d : Diagram) × IsSetToPlay d played.now played.now.sizes ready }
     requires valid { T.is_valid tape.old }
     requires fresh { T.is_fresh tape.old }
     requires ears { T.ears tape.old ≡ played.now.inputs }
     requires mouth { T.mouth tape.old ≡ played.now.outputs }
-    requires most { sizes.now.block ≤ T.most tape.old }
-    requires left { T.left tape.old ≡ sizes.now.frames }
+    requires most { played.now.sizes.block ≤ T.most tape.old }
+    requires left { T.left tape.old ≡ played.now.sizes.frames }
     // What was said is what the diagram answers on what was heard, whatever the sizes, and whatever the gate.
-    ensures samples { (d : Diagram) → IsSetToPlay d played.now sizes.now ready → OnOk result ((h : List ℤ)
-        × (length h ≡ sizes.now.frames * inputs d) × T.Went tape.old tape.new world.old world.new h
-        (answer_on d (control_streams changes.now (initial_of played.now.controls.now)) sizes.now.frames h)) }
+    ensures samples { (d : Diagram) → IsSetToPlay d played.now played.now.sizes ready → OnOk result ((h : List ℤ)
+        × (length h ≡ played.now.sizes.frames * inputs d) × T.Went tape.old tape.new world.old world.new h
+        (answer_on d (control_streams played.now.changes.now (initial_of played.now.controls.now)) played.now.sizes.frames h)) }
     // In every block each loop of a plan of the diagram's graph ran once on each vector, after all that it reads.
-    ensures ran { (d : Diagram) → IsSetToPlay d played.now sizes.now ready → IfOk result (λ r. RanWhole d played.now.controls.now changes.now
-        sizes.now r (G.told gate.old) (G.told gate.new)) }
+    ensures ran { (d : Diagram) → IsSetToPlay d played.now played.now.sizes ready → IfOk result (λ r. RanWhole d played.now.controls.now
+        played.now.changes.now played.now.sizes r (G.told gate.old) (G.told gate.new)) }
     // Where the tape stops, the blocks that were heard ran so. All that the diagram answers on them was said but for what the tape
     // stopped at.
-    ensures stops { (d : Diagram) → IsSetToPlay d played.now sizes.now ready → IfErr result (λ e. HasEnded d played.now.controls.now changes.now
-        sizes.now (G.told gate.old) (G.told gate.new) (λ h s act. T.Stopped tape.old tape.new world.old world.new h s act e)) }
+    ensures stops { (d : Diagram) → IsSetToPlay d played.now played.now.sizes ready → IfErr result (λ e. HasEnded d played.now.controls.now
+        played.now.changes.now played.now.sizes (G.told gate.old) (G.told gate.new) (λ h s act. T.Stopped tape.old tape.new world.old world.new h s act e)) }
 {
     // For the prover: the answer has a frame for each frame, as wide as the diagram's outputs.
     answers_each();
     answers_wide();
     spans_fit(played.controls);
     let course = Course {
-        sizes: *sizes,
+        sizes: played.sizes,
         plan: PlanSizes {
             loops: ready.loops,
             channels: played.inputs as usize,
             outputs: played.outputs as usize,
         },
-        changes,
+        changes: played.changes,
     };
     let ran = play_tape(rt, alloc, &course, &mut ready, tape, world, gate);
     // Dropped by a call, so that the program has one drop function for all owners of it.

@@ -149,6 +149,8 @@ fn played_on<R: Threads + Wait + Sync, G: Gate + Sync>(
         inputs: arity.inputs,
         outputs: arity.outputs,
         controls: program.controls.as_slice(),
+        changes,
+        sizes: *sizes,
     };
     let mut tape = MemoryTape {
         left: sizes.frames,
@@ -156,9 +158,7 @@ fn played_on<R: Threads + Wait + Sync, G: Gate + Sync>(
         inputs: arity.inputs,
         outputs: arity.outputs,
     };
-    match render_tape(
-        rt, alloc, &played, changes, sizes, ready, &mut tape, memory, gate,
-    ) {
+    match render_tape(rt, alloc, &played, ready, &mut tape, memory, gate) {
         Ok(ran) => ran,
         // A tape in memory never stops.
         Err(stop) => match stop {},

@@ -25,6 +25,7 @@ use Rattle.fv_engine_tasks.specs.Events.{IsFree}
 use Rattle.fv_engine_tasks.specs.Jobs.{IsJob, left_to_do}
 use Rattle.fv_graph.specs.Ready.{TakesReady}
 use Rattle.fv_engine_tasks.specs.Underway.{IsTaskIn, IsSoFar, IsUnderway, line_at, no_line}
+use Rattle.fv_engine_tasks.specs.inner.Lines.{line_of}
 use Rattle.fv_engine_tasks.proofs.lemmas.Numbers.{at, number_is, below, inside, same_step}
 
 more_same : (j : ℕ) (f : ℕ → ℕ) → one_more j f j ≡ suc (f j)
@@ -64,10 +65,6 @@ MayRunTask b x state =
 abbrev pub task_ran : Block → Task → State → State
 task_ran b x state =
     ran (b.plan.loops.code x.loop_no) (argument b.held) (frame_of b.input b.channels) (before b.vector b.frames x.vector) (frames_in b x.vector) state
-
--- its line in the journal, after n others
-abbrev pub line_of : Task → (place : ℕ) → Line
-line_of x n = record { task = x; worker = 0; start = 2 * n; finish = 2 * n + 1 }
 
 -- it may run, and the places then hold what they do after `more` vectors of each loop
 abbrev MakesMore : Block → Content → (vectors : ℕ → ℕ) → Task → State → Type 0

@@ -1,6 +1,6 @@
 // The tasks of a block, one after another by one worker.
 
-ghost use Rattle.std.specs.Prelude.{◌≡◌, ℕ, suc, ◌+◌, ◌-◌, ◌*◌, ◌<◌, ◌≤◌, true, All, length, List, [], ◌∷◌, set, vec_capacity, Some, None};
+ghost use Rattle.std.specs.Prelude.{◌≡◌, ℕ, suc, ◌+◌, ◌-◌, ◌*◌, ◌<◌, ◌≤◌, true, All, length, List, [], ◌∷◌, ◌++◌, set, vec_capacity, Some, None};
 ghost use Rattle.fv_loopcode.specs.Words.{argument};
 ghost use Rattle.fv_outside.specs.Tasks.{task_count};
 ghost use Rattle.fv_outside.specs.declared.gate.Line.{Line};
@@ -16,6 +16,7 @@ ghost use Rattle.fv_engine_tasks.specs.Block.{IsReal};
 ghost use Rattle.fv_engine_tasks.specs.Jobs.{IsJob, block_of, ServeAll, left_to_do};
 ghost use Rattle.fv_engine_tasks.specs.Events.{IsFree, Runs, Owes, KeepsCore};
 ghost use Rattle.fv_engine_tasks.specs.Underway.{IsUnderway, EndsBlock};
+ghost use Rattle.fv_engine_tasks.specs.inner.Lines.{line_of};
 
 use crate::codes::Codes;
 use fv_graph::{Core, Event, Tasks};
@@ -132,45 +133,51 @@ fn arrive_all(core: &mut Core, tasks: &Tasks, t: u64)
     }
 }
 
-// Does one task: takes it, runs its code, and arrives at what it feeds.
+// Does one task: takes it, runs its code, and arrives at what it feeds. Returns it.
 fn turn<P: Codes, S: Store, G: Gate>(
     job: &Job<'_, '_, '_, P>,
     tasks: &Tasks,
     core: &mut Core,
     scratches: &mut [Scratch],
-    lines: &mut Vec<Line>,
     store: &mut S,
     gate: &G,
     t: u64,
-)
+) -> Task
     requires same { core.old.tasks ≡ tasks.now.tasks }
     requires back { back_of (deque_of core.old.now 0) ≡ Some t }
     requires job { IsJob (block_of P.parts job.now) tasks.now.tasks }
     requires scratch { ServeAll (P.parts job.now.plan.now) (argument job.now.held.now) scratches.old }
-    requires room { task_count tasks.now.tasks ≤ vec_capacity lines.old }
     requires valid { S.is_valid store.old }
-    requires underway { (first : State) × IsReal (block_of P.parts job.now) first
-        × IsUnderway tasks.now.tasks (block_of P.parts job.now) first core.old.now (S.state store.old) lines.old.items }
+    requires underway { (first : State) × (lines : List Line) × IsReal (block_of P.parts job.now) first
+        × IsUnderway tasks.now.tasks (block_of P.parts job.now) first core.old.now (S.state store.old) lines }
     ensures core { KeepsCore core.old core.new }
     ensures kept { S.rest store.new ≡ S.rest store.old }
     ensures valid { S.is_valid store.new }
     ensures scratch { ServeAll (P.parts job.now.plan.now) (argument job.now.held.now) scratches.new }
-    ensures room { vec_capacity lines.new ≡ vec_capacity lines.old }
-    ensures underway { (first : State) → IsReal (block_of P.parts job.now) first
-        → IsUnderway tasks.now.tasks (block_of P.parts job.now) first core.old.now (S.state store.old) lines.old.items
-        → IsUnderway tasks.now.tasks (block_of P.parts job.now) first core.new.now (S.state store.new) lines.new.items }
-    ensures who { All (λ (line : Line). line.worker ≡ 0) lines.old.items → All (λ (line : Line). line.worker ≡ 0) lines.new.items }
+    // The journal has its line more.
+    ensures underway { (first : State) (lines : List Line) → IsReal (block_of P.parts job.now) first
+        → IsUnderway tasks.now.tasks (block_of P.parts job.now) first core.old.now (S.state store.old) lines
+        → IsUnderway tasks.now.tasks (block_of P.parts job.now) first core.new.now (S.state store.new) (lines ++ line_of result (length lines) ∷ []) }
     ensures less { left_to_do core.new.now.done < left_to_do core.old.now.done }
 {
     // For the prover: where all that the task reads is done, its lanes and cells hold what they are to hold, so it may run.
     task_is_free();
     take(core, tasks, t);
     let task = tasks.task(t);
-    let start = 2 * lines.len() as u64;
     gate.at(0, task);
     run_task(job, task, scratches, store);
     finish(core, tasks, t);
     arrive_all(core, tasks, t);
+    task
+}
+
+// Writes the line of a task that worker 0 ran into the journal.
+fn note(lines: &mut Vec<Line>, task: Task)
+    requires room { length lines.old.items < vec_capacity lines.old }
+    ensures lines { lines.new.items ≡ lines.old.items ++ line_of task (length lines.old.items) ∷ [] }
+    ensures room { vec_capacity lines.new ≡ vec_capacity lines.old }
+{
+    let start = 2 * lines.len() as u64;
     lines.push_reserved(Line {
         task,
         worker: 0,
@@ -224,7 +231,8 @@ pub fn run_tasks<P: Codes, S: Store, G: Gate>(
         → EndsBlock tasks.now.tasks (block_of P.parts job.now) first (S.state store.new) lines.new.items }
 {
     while let Some(t) = core.next_of(0) {
-        turn(job, tasks, core, scratches, lines, store, gate, t);
+        let task = turn(job, tasks, core, scratches, store, gate, t);
+        note(lines, task);
     }
     leave(core, tasks);
 }

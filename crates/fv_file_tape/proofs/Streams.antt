@@ -16,11 +16,11 @@ use Rattle.fv_pcm.specs.headline.Coded.{sample_bytes}
 use Rattle.fv_pcm.specs.Coded.{samples_in}
 use Rattle.fv_pcm.specs.headline.Sizes.{frame_size, stated_frames, whole_bytes}
 use Rattle.fv_wav.specs.Stopping.{Passes}
-use Rattle.fv_file_tape.specs.headline.Tapes.{HasBegun}
+use Rattle.fv_file_tape.specs.headline.Tapes.{layout_of, HasBegun}
 use Rattle.fv_file_tape.specs.Tapes.{IsInput, IsTape, AreTaken, AreHeard, Streams, Streamed, CannotBegin, CannotHear, CannotGoOn}
 use Rattle.fv_file_tape.specs.inner.Tapes.{Misses}
-use Rattle.fv_file_tape.specs.Tapes.{Files, channels_of, layout_of, head_of, front}
-use Rattle.fv_file_tape.specs.declared.samples.InputSamples.{InputSamples}
+use Rattle.fv_file_tape.specs.Tapes.{Files, channels_of, head_of, front}
+use Rattle.fv_file_tape.specs.declared.incoming.Incoming.{Incoming}
 use Rattle.fv_file_tape.specs.declared.file_tape.FileTape.{FileTape}
 use Rattle.fv_file_tape.specs.declared.file_tape.Stop.{Stop}
 use Rattle.fv_file_tape.proofs.lemmas.Heard.{taken_more, taken_next, taken_nothing, rows_fit, no_samples}
@@ -113,7 +113,7 @@ nothing_heard t done a b h s w none n to long =
     }
 
 -- bytes of an input that is left to read were taken, or could not be
-module _ (t : Files) (done : ℕ) (i : InputSamples) (is : t.input ≡ Some i) (fresh : t.held ≡ None) (a b c : DeskState) (h s : List ℤ)
+module _ (t : Files) (done : ℕ) (i : Incoming) (is : t.input ≡ Some i) (fresh : t.held ≡ None) (a b c : DeskState) (h s : List ℤ)
     (w : Streamed t done a b h s) where
   told_by : IsTrue a.tells → IsTrue b.tells
   told_by x = told_before w.streams.goes_on x
@@ -121,11 +121,11 @@ module _ (t : Files) (done : ℕ) (i : InputSamples) (is : t.input ≡ Some i) (
   taken_by : IsTrue a.tells → AreTaken i.coding i.bits h (a.left Input) (b.left Input)
   taken_by x =
       subst (λ (o : Option (List ℕ)). AreHeard (Some i) o h (a.left Input) (b.left Input)) fresh
-      (subst (λ (o : Option InputSamples). AreHeard o t.held h (a.left Input) (b.left Input)) is (w.heard x))
+      (subst (λ (o : Option Incoming). AreHeard o t.held h (a.left Input) (b.left Input)) is (w.heard x))
 
   heard_by : (xs : List ℤ) → AreTaken i.coding i.bits xs (a.left Input) (c.left Input) → AreHeard t.input t.held xs (a.left Input) (c.left Input)
   heard_by xs p =
-      subst (λ (o : Option InputSamples). AreHeard o t.held xs (a.left Input) (c.left Input)) (sym is)
+      subst (λ (o : Option Incoming). AreHeard o t.held xs (a.left Input) (c.left Input)) (sym is)
       (subst (λ (o : Option (List ℕ)). AreHeard (Some i) o xs (a.left Input) (c.left Input)) (sym fresh) p)
 
   wide : channels_of t.input ≡ i.channels
@@ -181,7 +181,7 @@ module _ (t : Files) (done : ℕ) (i : InputSamples) (is : t.input ≡ Some i) (
   }
 
 -- frames more were heard of bytes that were read before
-pub held_on : (t : Files) (done : ℕ) (i : InputSamples) (held : List ℕ) (a b : DeskState) (h s : List ℤ) → t.input ≡ Some i → t.held ≡ Some held
+pub held_on : (t : Files) (done : ℕ) (i : Incoming) (held : List ℕ) (a b : DeskState) (h s : List ℤ) → t.input ≡ Some i → t.held ≡ Some held
     → Streamed t done a b h s → (n : ℕ) (piece : List ℤ) → length piece ≡ n * i.channels
     → done * frame_size i.channels i.bits + length piece * (i.bits / 8) ≤ length held
     → piece ≡ samples_in i.coding i.bits (length piece) (drop (done * frame_size i.channels i.bits) held)
@@ -196,11 +196,11 @@ held_on t done i held a b h s is kept w n piece long there are = record {
   heard = λ x.
       let p : AreHeard (Some i) (Some held) h (a.left Input) (b.left Input) =
       subst (λ (o : Option (List ℕ)). AreHeard (Some i) o h (a.left Input) (b.left Input)) kept
-      (subst (λ (o : Option InputSamples). AreHeard o t.held h (a.left Input) (b.left Input)) is (w.heard x)) in
+      (subst (λ (o : Option Incoming). AreHeard o t.held h (a.left Input) (b.left Input)) is (w.heard x)) in
       let past : length h * (i.bits / 8) ≡ done * frame_size i.channels i.bits =
       ap (λ m. m * (i.bits / 8)) (w.long ∙ ap (λ m. done * m) (ap channels_of is)) ∙ mul_assoc done i.channels (i.bits / 8) in
       let more = taken_next p.0 (omega (arith, past, there)) (are ∙ ap (λ m. samples_in i.coding i.bits (length piece) (drop m held)) (sym past)) in
-      subst (λ (o : Option InputSamples). AreHeard o t.held (h ++ piece) (a.left Input) (b.left Input)) (sym is)
+      subst (λ (o : Option Incoming). AreHeard o t.held (h ++ piece) (a.left Input) (b.left Input)) (sym is)
       (subst (λ (o : Option (List ℕ)). AreHeard (Some i) o (h ++ piece) (a.left Input) (b.left Input)) (sym kept) (more, p.1));
   said = w.said;
 }
@@ -237,7 +237,7 @@ module _ (t : Files) (a b c : DeskState) (w : BeginsOutput t.output a b) where
     heard = λ x. none_heard t.input t.held (a.left Input) (c.left Input) (p.left (told_before w.goes_on x) Input ∙ w.left x Input);
     said = λ x. p.appended (told_before w.goes_on x) ∙ ap (λ v. v ++ head_of t.head) (w.empty x) ∙ sym (front_none t);
   } where
-    none_heard : (o : Option InputSamples) (held : Option (List ℕ)) (before after : List ℕ) → after ≡ before → AreHeard o held [] before after
+    none_heard : (o : Option Incoming) (held : Option (List ℕ)) (before after : List ℕ) → after ≡ before → AreHeard o held [] before after
     none_heard None held before after same = (refl, same)
     none_heard (Some i) None before after same = taken_nothing i.coding i.bits before after same
     none_heard (Some i) (Some bytes) before after same =
@@ -288,17 +288,17 @@ begin_stops t a b on asked kept others fault unsure = record {
 -- ---- numbers
 
 -- all frames that are stated are within the bytes that are
-pub behind_fits : (t : FileTape) (i : InputSamples) → IsTape t → t.input ≡ Some i → t.done * frame_size i.channels i.bits < 2 ^ 32
+pub behind_fits : (t : FileTape) (i : Incoming) → IsTape t → t.input ≡ Some i → t.done * frame_size i.channels i.bits < 2 ^ 32
 behind_fits t i v is =
     let frame = frame_size i.channels i.bits in
     let stated : t.stated ≡ stated_frames (layout_of i) = v.stated i is in
-    let all : t.stated * frame ≤ i.size = subst (λ k. k * frame ≤ i.size) (sym stated) (div-mul-le_self i.size frame) in
+    let all : t.stated * frame ≤ i.data_bytes = subst (λ k. k * frame ≤ i.data_bytes) (sym stated) (div-mul-le_self i.data_bytes frame) in
     let done = rows_fit t.done t.stated frame v.done in
     let ranges : IsInput i = v.input i is in
-    let size : i.size < 2 ^ 32 = ranges.size in
+    let size : i.data_bytes < 2 ^ 32 = ranges.size in
     omega (arith, all, done, size)
 
-pub asked_within : (t : FileTape) (i : InputSamples) → IsTape t → t.input ≡ Some i → (n long : ℕ) → n ≤ t.stated - t.done → long ≡ n * i.channels
+pub asked_within : (t : FileTape) (i : Incoming) → IsTape t → t.input ≡ Some i → (n long : ℕ) → n ≤ t.stated - t.done → long ≡ n * i.channels
     → t.done * frame_size i.channels i.bits + long * (i.bits / 8) ≤ whole_bytes (layout_of i)
 asked_within t i v is n long there long_is =
     let frame = frame_size i.channels i.bits in

@@ -15,33 +15,29 @@ use Rattle.fv_outside.specs.Acts.{Act, Beginning, Hearing, Saying}
 use Rattle.fv_pcm.specs.declared.coding.Coding.{Coding}
 use Rattle.fv_pcm.specs.headline.Coded.{sample_bytes}
 use Rattle.fv_pcm.specs.Coded.{samples_in}
-use Rattle.fv_pcm.specs.headline.Sizes.{Layout, frame_size, stated_frames, whole_bytes, data_limit}
+use Rattle.fv_pcm.specs.headline.Sizes.{frame_size, stated_frames, whole_bytes, data_limit}
 use Rattle.fv_wav.specs.Stopping.{IsFaultOfInput}
-use Rattle.fv_file_tape.specs.declared.samples.InputSamples.{InputSamples}
+use Rattle.fv_file_tape.specs.declared.incoming.Incoming.{Incoming}
 use Rattle.fv_file_tape.specs.declared.file_tape.OutputHead.{OutputHead}
 use Rattle.fv_file_tape.specs.declared.file_tape.FileTape.{FileTape}
 use Rattle.fv_file_tape.specs.declared.file_tape.Stop.{Stop}
 use Rattle.fv_file_tape.specs.declared.file_tape.Stop.TheVariants as stop
-use Rattle.fv_file_tape.specs.headline.Tapes.{head_in, HasBegun, KeepsOutput}
+use Rattle.fv_file_tape.specs.headline.Tapes.{layout_of, head_in, HasBegun, KeepsOutput}
 
 -- how many samples a frame of the input has: none where there is no input
-abbrev pub channels_of : Option InputSamples → ℕ
+abbrev pub channels_of : Option Incoming → ℕ
 channels_of None = 0
 channels_of (Some i) = i.channels
-
--- where its samples lie in its file
-abbrev pub layout_of : InputSamples → Layout
-layout_of i = record { channels = i.channels; bits = i.bits; size = i.size; place = i.place }
 
 abbrev pub head_of : OutputHead → List ℕ
 head_of head = head_in head.coding head.channels head.rate head.bits head.size
 
 -- the ranges of an input's numbers
-pub record IsInput (i : InputSamples) : Type 0 where
+pub record IsInput (i : Incoming) : Type 0 where
   pub some : 1 ≤ i.channels
   pub few : i.channels ≤ MOST_CHANNELS
   pub bits : is_sample_width i.bits ≡ true
-  pub size : i.size < 2 ^ 32
+  pub size : i.data_bytes < 2 ^ 32
   pub low : i.place < 2 ^ 45
 
 -- What a tape hears of and says to: the output's name and head; the input, the bytes of its samples, where they were read before,
@@ -49,7 +45,7 @@ pub record IsInput (i : InputSamples) : Type 0 where
 pub record Files : Type 0 where
   pub output : List ℕ
   pub head : OutputHead
-  pub input : Option InputSamples
+  pub input : Option Incoming
   pub held : Option (List ℕ)
   pub stated : ℕ
 
@@ -89,7 +85,7 @@ pub record AreTaken (c : Coding) (bits : ℕ) (h : List ℤ) (before after : Lis
   pub rest : after ≡ drop (length h * (bits / 8)) before
 
 -- these samples of the input were heard, if there is one: from the bytes that were left of it, or from those that were read before
-abbrev pub AreHeard : Option InputSamples → (held : Option (List ℕ)) → List ℤ → (before after : List ℕ) → Type 0
+abbrev pub AreHeard : Option Incoming → (held : Option (List ℕ)) → List ℤ → (before after : List ℕ) → Type 0
 AreHeard None held h before after = (h ≡ []) × (after ≡ before)
 AreHeard (Some i) None h before after = AreTaken i.coding i.bits h before after
 AreHeard (Some i) (Some bytes) h before after = AreTaken i.coding i.bits h bytes (drop (length h * (i.bits / 8)) bytes) × (after ≡ before)
@@ -122,14 +118,14 @@ abbrev pub InputFails : (start now : DeskState) → Stop → Type 0
 InputFails start now e = (e ≡ stop.Read) × IsFaultOfInput start now × KeepsFaultsBut Input start now
 
 -- The input ends before this many frames after h, where it is known to. All of it was taken, and no fault was counted.
-abbrev pub InputEnds : InputSamples → (start now : DeskState) → (h : List ℤ) (frames : ℕ) → Stop → Type 0
+abbrev pub InputEnds : Incoming → (start now : DeskState) → (h : List ℤ) (frames : ℕ) → Stop → Type 0
 InputEnds i start now h frames e =
     (end : ℕ) × (e ≡ stop.End end) × KeepsFaults start now
     × (IsTrue start.tells → (length (start.left Input) < length h * (i.bits / 8) + frames * frame_size i.channels i.bits)
     × (now.left Input ≡ []) × (end ≡ i.place + length (start.left Input)))
 
 -- These frames of an input that is left to read could not be heard after h.
-pub record CannotHear (f : Files) (i : InputSamples) (start now : DeskState) (h s : List ℤ) (frames : ℕ) (e : Stop) : Type 0 where
+pub record CannotHear (f : Files) (i : Incoming) (start now : DeskState) (h s : List ℤ) (frames : ℕ) (e : Stop) : Type 0 where
   pub streams : Streams f.output start now
   pub begun : HasBegun start now
   pub said : IsTrue start.tells → now.written Output ≡ front f s
@@ -148,5 +144,5 @@ pub record CannotGoOn (f : Files) (start now : DeskState) (h s more : List ℤ) 
 -- what stands where it stopped in this act
 abbrev pub StopsIn : (f : Files) (start now : DeskState) (h s : List ℤ) → Act → Stop → Type 0
 StopsIn f start now h s Beginning e = (e ≡ stop.Write) × CannotBegin f start now
-StopsIn f start now h s (Hearing n) e = (i : InputSamples) × (f.input ≡ Some i) × (f.held ≡ None) × CannotHear f i start now h s n e
+StopsIn f start now h s (Hearing n) e = (i : Incoming) × (f.input ≡ Some i) × (f.held ≡ None) × CannotHear f i start now h s n e
 StopsIn f start now h s (Saying more) e = (e ≡ stop.Write) × CannotGoOn f start now h s more

@@ -4,7 +4,8 @@ ghost use Rattle.std.specs.Prelude.{◌≡◌, ◌+◌, ◌*◌, ◌/◌, ◌-�
 ghost use Rattle.fv_outside.specs.Acts.{Act, Beginning, Hearing, Saying};
 ghost use Rattle.fv_file_tape.specs.Tapes.{IsTape, Streamed, StopsIn, channels_of, files_of};
 
-use crate::samples::{InputSamples, decode_behind, read_samples, write_output_head, write_samples};
+use crate::incoming::Incoming;
+use crate::samples::{decode_behind, read_samples, write_output_head, write_samples};
 use fv_outside::{Desk, Role, Tape};
 use fv_pcm::{Coding, frame_size};
 
@@ -41,8 +42,8 @@ pub struct FileTape<'a> {
     pub output: &'a str,
     /// What the output's head says.
     pub head: OutputHead,
-    /// Where the samples of the input lie in its file, if there is one.
-    pub input: Option<InputSamples>,
+    /// What the head of the input says, if there is one.
+    pub input: Option<Incoming>,
     /// The bytes of the input's samples, where they were read before.
     pub held: Option<Vec<u8>>,
     /// How many frames were heard so far.

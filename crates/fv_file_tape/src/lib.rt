@@ -3,7 +3,8 @@
 #![tactic(auto)]
 
 mod file_tape;
+mod incoming;
 mod samples;
 
 pub use file_tape::{FileTape, OutputHead, Stop};
-pub use samples::InputSamples;
+pub use incoming::Incoming;

@@ -15,28 +15,14 @@ ghost use Rattle.fv_file_tape.specs.Tapes.{IsInput, head_of};
 ghost use Rattle.fv_file_tape.specs.inner.Tapes.{Misses};
 
 use crate::file_tape::{OutputHead, Stop};
+use crate::incoming::Incoming;
 use fv_au::{write_au_frames, write_au_head};
 use fv_outside::Desk;
 use fv_pcm::{Coding, decode, frame_size};
 use fv_wav::{WriteRefusal, write_frames, write_head};
 
-/// Where the samples of an input lie.
-#[derive(Clone, Copy)]
-pub struct InputSamples {
-    /// How samples are stored: as in WAV or in AU files.
-    pub coding: Coding,
-    /// How many samples a frame has.
-    pub channels: u32,
-    /// Bits of a sample.
-    pub bits: u32,
-    /// The bytes of samples that are stated.
-    pub size: u32,
-    /// Bytes of the file before them.
-    pub place: u64,
-}
-
 /// Fills `to` with the samples that follow the first `frames` frames of these bytes.
-pub(crate) fn decode_behind(input: &InputSamples, frames: u32, bytes: &[u8], to: &mut [i32])
+pub(crate) fn decode_behind(input: &Incoming, frames: u32, bytes: &[u8], to: &mut [i32])
     requires input { IsInput input.now }
     requires there { frames * frame_size input.now.channels input.now.bits + length to.old * (input.now.bits / 8) ≤ length bytes.now }
     ensures { to.new ≡ samples_in input.now.coding input.now.bits (length to.new) (drop (frames * frame_size input.now.channels input.now.bits) bytes.now) }

@@ -1,13 +1,13 @@
 -- The lists that are made are those of the edges.
-use Rattle.std.proofs.Common.{◌≡◌, ℕ, zero, suc, ◌+◌, ◌*◌, ◌/◌, ◌%◌, ◌<◌, Bool, List, [], ◌∷◌, map, length, get_or}
-use Rattle.std.proofs.Common.{refl, sym, ap, ◌∙◌, subst, arith, ◌==◌, suc-mul, mod-lt}
+use Rattle.std.proofs.Common.{◌≡◌, ℕ, zero, suc, ◌+◌, ◌*◌, ◌<◌, Bool, List, [], ◌∷◌, map, length, get_or}
+use Rattle.std.proofs.Common.{refl, sym, ap, ◌∙◌, subst, arith, ◌==◌, suc-mul}
 use Rattle.std.specs.Global.{Vec}
 use Rattle.fv_outside.specs.headline.Tasks.{Tasks}
-use Rattle.fv_outside.specs.Tasks.{task_count}
 use Rattle.fv_outside.specs.declared.tasks.Reads.{Reads}
 use Rattle.fv_graph.specs.Words.{passing}
-use Rattle.fv_graph.specs.Graph.{no_reads, pair_at, stride, loop_of, vector_of, pair_edges_into, pair_edges_out}
-use Rattle.fv_graph.specs.inner.Lists.{AreLists, AreInward, AreOutward, Grouped, group_of, edges_at}
+use Rattle.fv_graph.specs.Graph.{no_reads, pair_at, stride}
+use Rattle.fv_graph.specs.declared.lists.EdgeLists.{EdgeLists}
+use Rattle.fv_graph.specs.inner.Lists.{AreLists, AreInward, AreOutward, Grouped, group_of, edges_at, pairs_at}
 use Rattle.fv_graph.proofs.lemmas.ReadsLemmas.{get_passing}
 
 group_items : (groups : List (Vec ℕ)) (j : ℕ) (xs : List ℕ) → j < length groups → ((d : Vec ℕ) → (get_or groups j d).items ≡ xs) → group_of groups j ≡ xs
@@ -51,32 +51,42 @@ module _ (g : Tasks) (f : Reads → ℕ) (z : f no_reads ≡ 0) (keys : List ℕ
       let p = get_passing (λ k. f (pair_at g k) == j) 0 (length g.reads) i 0 (subst (λ xs. i < length xs) m l) in
       let q = ap (λ xs. get_or xs i 0) m in let o = p.high in omega arith
 
-  pairs_made : (wide : ℕ) → wide ≡ stride g → (t : ℕ) → 0 < g.loops
-      → map (λ k. t / g.loops * wide + g.loops + k) (group_of groups (t % g.loops)) ≡ map (λ k. vector_of g t * stride g + (g.loops + k))
-      (passing (λ k. f (pair_at g k) == loop_of g t) 0 (length g.reads))
-  pairs_made wide w t some =
-      ap (map (λ k. t / g.loops * wide + g.loops + k)) (made (t % g.loops) (mod-lt t some))
-      ∙ ap (λ (e : ℕ → ℕ). map e (passing (λ k. f (pair_at g k) == loop_of g t) 0 (length g.reads))) (λ x k. moved k x)
+  -- the list of a loop's task at a vector, after its edge from its own loop or to it
+  pub pairs_made : (wide v j : ℕ) → wide ≡ stride g → j < g.loops
+      → map (λ e. v * wide + e) (map (λ k. g.loops + k) (group_of groups j)) ≡ pairs_at f g v j
+  pairs_made wide v j w h =
+      map_twice (λ e. v * wide + e) (λ k. g.loops + k) (group_of groups j)
+      ∙ ap (map (λ k. v * wide + (g.loops + k))) (made j h)
+      ∙ ap (λ n. map (λ k. v * n + (g.loops + k)) (passing (λ k. f (pair_at g k) == j) 0 (length g.reads))) w
     where
-      moved : (k : ℕ) → t / g.loops * wide + g.loops + k ≡ vector_of g t * stride g + (g.loops + k)
-      moved k = let q = ap (λ n. t / g.loops * n) w in omega arith
+      map_twice : (f g : ℕ → ℕ) (xs : List ℕ) → map f (map g xs) ≡ map (λ x. f (g x)) xs
+      map_twice f g [] = refl
+      map_twice f g (x ∷ xs) = ap (λ ys. f (g x) ∷ ys) (map_twice f g xs)
 
 -- the lists into tasks, and those out of them
-pub are_inward : (g : Tasks) (keys : List ℕ) (groups lists : List (Vec ℕ)) (wide : ℕ) → 0 < g.loops → wide ≡ stride g
-    → AreGrouped g (λ (r : Reads). r.reader) keys groups → AreLists (edges_at g.loops wide 0 groups) (task_count g) lists → AreInward g lists
-are_inward g keys groups lists wide some w are h = record {
+pub are_inward : (g : Tasks) (keys : List ℕ) (groups : List (Vec ℕ)) (lists : EdgeLists) (wide : ℕ) → wide ≡ stride g
+    → AreGrouped g (λ (r : Reads). r.reader) keys groups
+    → AreLists (edges_at g.loops wide 0 groups) g.vectors g.loops lists.wide lists.begins.items lists.edges.items → AreInward g lists
+are_inward g keys groups lists wide w are h = record {
   long = h.long;
-  each = λ t d l. h.each t d l
-      ∙ ap (λ xs. (t / g.loops * wide + t % g.loops + 0) ∷ xs) (pairs_made g (λ (r : Reads). r.reader) refl keys groups are wide w t some)
-      ∙ ap (λ n. n ∷ pair_edges_into g t) (let q = ap (λ n. t / g.loops * n) w in omega arith);
+  each = λ v j l k. let p = h.each v j l k in record {
+    rises = p.rises;
+    within = p.within;
+    is = p.is ∙ ap (λ xs. (v * wide + (j + 0)) ∷ xs) (pairs_made g (λ (r : Reads). r.reader) refl keys groups are wide v j w k)
+        ∙ ap (λ n. n ∷ pairs_at (λ (r : Reads). r.reader) g v j) (let q = ap (λ n. v * n) w in omega arith);
+  };
 }
 
-pub are_outward : (g : Tasks) (keys : List ℕ) (groups lists : List (Vec ℕ)) (wide : ℕ) → 0 < g.loops → wide ≡ stride g
-    → AreGrouped g (λ (r : Reads). r.source) keys groups → AreLists (edges_at g.loops wide wide groups) (task_count g) lists → AreOutward g lists
-are_outward g keys groups lists wide some w are h = record {
+pub are_outward : (g : Tasks) (keys : List ℕ) (groups : List (Vec ℕ)) (lists : EdgeLists) (wide : ℕ) → wide ≡ stride g
+    → AreGrouped g (λ (r : Reads). r.source) keys groups
+    → AreLists (edges_at g.loops wide wide groups) g.vectors g.loops lists.wide lists.begins.items lists.edges.items → AreOutward g lists
+are_outward g keys groups lists wide w are h = record {
   long = h.long;
-  each = λ t d l. h.each t d l
-      ∙ ap (λ xs. (t / g.loops * wide + t % g.loops + wide) ∷ xs) (pairs_made g (λ (r : Reads). r.source) refl keys groups are wide w t some)
-      ∙ ap (λ n. n ∷ pair_edges_out g t) (let q = ap (λ n. t / g.loops * n) w in let m = suc-mul (t / g.loops) (stride g) in
-      let r : (t / g.loops + 1) * stride g ≡ suc (t / g.loops) * stride g = ap (λ n. n * stride g) (omega arith) in omega arith);
+  each = λ v j l k. let p = h.each v j l k in record {
+    rises = p.rises;
+    within = p.within;
+    is = p.is ∙ ap (λ xs. (v * wide + (j + wide)) ∷ xs) (pairs_made g (λ (r : Reads). r.source) refl keys groups are wide v j w k)
+        ∙ ap (λ n. n ∷ pairs_at (λ (r : Reads). r.source) g v j) (let q = ap (λ n. v * n) w in let m = suc-mul v (stride g) in
+        let r : (v + 1) * stride g ≡ suc v * stride g = ap (λ n. n * stride g) (omega arith) in omega arith);
+  };
 }

@@ -8,7 +8,7 @@ ghost use Rattle.fv_outside.specs.Tasks.{task_count};
 ghost use Rattle.fv_graph.specs.Net.{need_count};
 
 use crate::groups::{group, readers, sources};
-use crate::lists::{can_number, lists_of};
+use crate::lists::{EdgeLists, can_number, list_at, lists_of};
 use crate::sorted::sorted;
 use fv_outside::{Reads, Task};
 use std::alloc::{AllocError, Global};
@@ -26,9 +26,9 @@ pub struct Tasks {
     // Which loop reads lanes of which other, by reader and then by source.
     reads: Vec<Reads>,
     // By task, for the most vectors: the edges into it, in order.
-    inward: Vec<Vec<u64>>,
+    inward: EdgeLists,
     // By task, for the most vectors: the edges out of it, in order.
-    outward: Vec<Vec<u64>>,
+    outward: EdgeLists,
 }
 
 impl Model for Tasks {
@@ -44,8 +44,8 @@ impl Model for Tasks {
     ghost view = { λ t. record { tasks = record { loops = t.loops; vectors = t.vectors; reads = t.reads.items }; most = t.most } };
 
     ghost invariant = { λ t. IsGraph (record { loops = t.loops; vectors = t.vectors; reads = t.reads.items }) × (t.vectors ≤ t.most)
-        × AreInward (record { loops = t.loops; vectors = t.most; reads = t.reads.items }) t.inward.items
-        × AreOutward (record { loops = t.loops; vectors = t.most; reads = t.reads.items }) t.outward.items
+        × AreInward (record { loops = t.loops; vectors = t.most; reads = t.reads.items }) t.inward
+        × AreOutward (record { loops = t.loops; vectors = t.most; reads = t.reads.items }) t.outward
         × (edges_of (record { loops = t.loops; vectors = t.most; reads = t.reads.items }) < 2 ^ 62)
         × (t.most < 2 ^ 32) };
 }
@@ -153,7 +153,7 @@ impl Tasks {
         requires { t < task_count self.now.tasks }
         ensures { result.now ≡ inward self.now.tasks t }
     {
-        self.inward[t as usize].as_slice()
+        list_at(&self.inward, t / self.loops, t % self.loops)
     }
 
     /// The edges out of a task, in order.
@@ -161,7 +161,7 @@ impl Tasks {
         requires { t < task_count self.now.tasks }
         ensures { result.now ≡ outward self.now.tasks t }
     {
-        self.outward[t as usize].as_slice()
+        list_at(&self.outward, t / self.loops, t % self.loops)
     }
 
     /// How many tasks a task reads.

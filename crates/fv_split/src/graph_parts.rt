@@ -16,7 +16,7 @@ use fv_analysis::{Histories, Rates};
 use fv_loopcode::Counts;
 use fv_signal::{Graph, SignalId};
 use fv_split_code::codes;
-use fv_split_plan::{CellsInfo, Plan};
+use fv_split_plan::{CellsInfo, Plan, PlanParts};
 use std::alloc::{AllocError, Global};
 
 // What the code of the held values may name: the tables.
@@ -59,16 +59,16 @@ fn planned(
     let codes = all_code(alloc, steps, counts)?;
     let held = code(alloc, &surveyed.held, still_counts(graph))?;
     let copied = copied_tables(alloc, graph)?;
-    Ok(Plan::new(
-        surveyed.loops,
+    Ok(Plan::new(PlanParts {
+        loops: surveyed.loops,
         lanes,
-        copied,
+        tables: copied,
         cells,
         codes,
-        told,
+        reads: told,
         outputs,
         held,
-    ))
+    }))
 }
 
 /// The loops of a graph whose rates and histories these are.

@@ -5,6 +5,7 @@ pub mod View
 pub mod Plans
 pub mod Tasks
 pub mod Rows
+pub mod Parts
 pub mod inner
 -- what it hands on of crates below
 pub use Rattle.fv_components.specs.headline.Reach

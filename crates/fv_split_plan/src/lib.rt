@@ -8,4 +8,4 @@ mod plan;
 
 pub use lane::{CellsInfo, LaneInfo};
 pub use laws::{codes_obey, histories_within, outputs_need_loops, plans_are_apart, plans_do_tasks};
-pub use plan::Plan;
+pub use plan::{Plan, PlanParts};

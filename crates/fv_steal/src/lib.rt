@@ -21,7 +21,7 @@ mod side_by_side;
 mod turns;
 mod worker;
 
-pub use block::run_crew;
+pub use block::{CrewBlock, run_crew};
 pub use body::Body;
 pub use crew_work::work;
 pub use handles::{TaskDeque, Victim};

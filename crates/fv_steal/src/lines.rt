@@ -20,11 +20,15 @@ pub(crate) fn copy_lines<C: Drop>(workers: &[Worker<C>], lines: &mut Vec<Line>)
     }
 }
 
-/// Sorts lines by their starts.
+/// Sorts lines by their starts. Each worker wrote its own in that order, so the stable sort finds runs and merges them. Where it is
+/// refused its memory, they are sorted in place.
 pub(crate) fn sort_lines(lines: &mut Vec<Line>)
     ensures permutation { IsPermutation lines.old.items lines.new.items }
     ensures starts { IsNonDecreasingBy (λ (line : Line). line.start) lines.new.items }
     ensures room { vec_capacity lines.new ≡ vec_capacity lines.old }
 {
+    if let Ok(()) = lines.sort_by_key(|line| line.start) {
+        return;
+    }
     lines.sort_unstable_by_key(|line| line.start);
 }

@@ -19,6 +19,13 @@ use fv_outside::{Gate, Line, Task};
 use fv_ready::{Board, Parcel, WorkerSeat};
 use std::sync::Wait;
 
+/// Which worker took which task.
+#[derive(Clone, Copy)]
+pub struct Taken {
+    worker: u32,
+    task: u64,
+}
+
 /// Runs the task that the seat took: it starts, its parcels come in, its body runs, its parcels go out, and it finishes. The two
 /// stamps.
 fn run<C: Parcel + Drop, B: Body<C>, G: Gate>(
@@ -28,31 +35,31 @@ fn run<C: Parcel + Drop, B: Body<C>, G: Gate>(
     gate: &G,
     seat: &mut WorkerSeat<C>,
     parcels: &mut Vec<C>,
-    number: u32,
-    t: u64,
+    taken: Taken,
 ) -> (u64, u64)
     requires wires { IsWires (wires_of tasks.now.tasks) }
     requires tasks { graph_of board.now ≡ tasks.now }
     requires body { (B.tasks body.now ≡ tasks.now.tasks) × (B.key body.now ≡ C.key_of (about_of board.now).sample.value) }
     requires seat { IsSeatOf C.edge_of C.key_of board.now seat.old }
-    requires task { t < task_count tasks.now.tasks }
-    requires hand { hand_of seat.old ≡ Some (record { task = t; started = false }) }
-    requires taken { AreTaken C.edge_of C.key_of board.now t (slots_of seat.old) }
+    requires task { taken.task < task_count tasks.now.tasks }
+    requires hand { hand_of seat.old ≡ Some (record { task = taken.task; started = false }) }
+    requires taken { AreTaken C.edge_of C.key_of board.now taken.task (slots_of seat.old) }
     requires none { vec_len parcels.old ≡ 0 }
-    requires room { (length (inward tasks.now.tasks t) ≤ vec_capacity parcels.old) × (length (outward tasks.now.tasks t) ≤ vec_capacity parcels.old) }
-    ensures list { view_of seat.new ≡ noted (noted (view_of seat.old) (Stamped result.0 t true)) (Stamped result.1 t false) }
+    requires room { (length (inward tasks.now.tasks taken.task) ≤ vec_capacity parcels.old)
+        × (length (outward tasks.now.tasks taken.task) ≤ vec_capacity parcels.old) }
+    ensures list { view_of seat.new ≡ noted (noted (view_of seat.old) (Stamped result.0 taken.task true)) (Stamped result.1 taken.task false) }
     ensures spans { result.0 < result.1 }
     ensures hand { hand_of seat.new ≡ None }
     ensures seat { IsSeatOf C.edge_of C.key_of board.now seat.new }
     ensures none { vec_len parcels.new ≡ 0 }
     ensures room { vec_capacity parcels.old ≤ vec_capacity parcels.new }
 {
-    let task = tasks.task(t);
+    let task = tasks.task(taken.task);
     let start = board.stamp(seat);
-    receive_all(tasks, board, seat, t, parcels);
-    gate.at(number, task);
+    receive_all(tasks, board, seat, taken.task, parcels);
+    gate.at(taken.worker, task);
     body.run(task, parcels);
-    hand_all(tasks, board, seat, t, parcels);
+    hand_all(tasks, board, seat, taken.task, parcels);
     let finish = board.stamp(seat);
     (start, finish)
 }
@@ -98,6 +105,10 @@ pub(crate) fn turn<R: Wait, C: Parcel + Drop, B: Body<C>, G: Gate>(
     if !board.claim(&mut worker.seat, t) {
         return;
     }
+    let taken = Taken {
+        worker: worker.number,
+        task: t,
+    };
     let (start, finish) = run(
         tasks,
         board,
@@ -105,8 +116,7 @@ pub(crate) fn turn<R: Wait, C: Parcel + Drop, B: Body<C>, G: Gate>(
         gate,
         &mut worker.seat,
         &mut worker.parcels,
-        worker.number,
-        t,
+        taken,
     );
     let task = tasks.task(t);
     write_line(&mut worker.lines, worker.number, task, start, finish);

@@ -23,7 +23,7 @@ use Rattle.fv_engine_render.specs.headline.Files.{IsCutAt}
 use Rattle.fv_engine_render.specs.Files.{AreTakenOf, HasTaken, frames_at}
 use Rattle.fv_file_tape.specs.headline.Tapes.{HasBegun}
 use Rattle.fv_file_tape.specs.Tapes.{Streams, files_of}
-use Rattle.fv_file_tape.specs.declared.samples.InputSamples.{InputSamples}
+use Rattle.fv_file_tape.specs.declared.incoming.Incoming.{Incoming}
 use Rattle.fv_file_tape.specs.declared.file_tape.Stop.{Stop}
 use Rattle.fv_file_tape.specs.declared.file_tape.Stop.TheVariants as stop
 use Rattle.fv_top_words.specs.headline.Runs.{Run}
@@ -45,7 +45,7 @@ use Rattle.fv_top.specs.headline.Promise.{Asks, Plays, IsWhole, Write, Tell, Has
 use Rattle.fv_top.specs.headline.Promise.{of_job, LeavesOutput, HasPlayedPresent, IsReadBy, IsRead, KeepsOthers}
 use Rattle.fv_top.specs.headline.Played.{HaveRan, RanSoFar}
 use Rattle.fv_top_files.specs.Formats.{format_in}
-use Rattle.fv_top.specs.inner.Prepared.{CanRun, IsForRun, IsOfFiles, HasRun, IsCutIn, EndsAt, frames_there, file_on, file_to, file_there, samples_of}
+use Rattle.fv_top.specs.inner.Prepared.{CanRun, IsForRun, IsOfFiles, HasRun, IsCutIn, EndsAt, frames_there, file_on, file_to, file_there}
 use Rattle.fv_top.specs.inner.Prepared.{coding_heard}
 use Rattle.fv_top.specs.inner.Prepared.{refusal_of_stop}
 use Rattle.fv_top.specs.inner.Running.{Reaches, CountsFaultOf, asked_before, EndsDone, Stopped}
@@ -224,7 +224,7 @@ module _ {words : List (List ℕ)} {run : Run} {m : Compiled} {p : Prepared} {a 
 
     -- as many frames of the input as were taken
     taken_by : (t : IsTrue a.tells) (n : ℕ) → HasTaken (files_of p.tape) n b c
-        → AreTakenOf (option_map samples_of (plays_by t).source.head) (files_of p.tape).held n (b.left Input) (c.left Input)
+        → AreTakenOf (plays_by t).source.head (files_of p.tape).held n (b.left Input) (c.left Input)
     taken_by t n y = subst (λ i. AreTakenOf i (files_of p.tape).held n (b.left Input) (c.left Input)) (w.of t).input y
 
     within_by : (t : IsTrue a.tells) (n : ℕ) → n ≤ p.sizes.frames → HasTaken (files_of p.tape) n b c
@@ -251,7 +251,7 @@ module _ {words : List (List ℕ)} {run : Run} {m : Compiled} {p : Prepared} {a 
         }
 
     -- the file was read to its end, which is within its whole frames
-    rest_cut : (t : IsTrue a.tells) (i : InputSamples) (place : ℕ) → (files_of p.tape).held ≡ None → IsCutIn m p i g place b c
+    rest_cut : (t : IsTrue a.tells) (i : Incoming) (place : ℕ) → (files_of p.tape).held ≡ None → IsCutIn m p i g place b c
         → LeavesRest run.manner.input run.input a.files (c.left Input)
     rest_cut t i place fresh k =
         let o = w.of t in
@@ -279,7 +279,7 @@ module _ {words : List (List ℕ)} {run : Run} {m : Compiled} {p : Prepared} {a 
     stop_rest stop.Write k other said t = absurd (said refl)
 
     -- the input is cut short at its end
-    cut_by : (t : IsTrue a.tells) (i : InputSamples) (place : ℕ) → p.tape.input ≡ Some i → (files_of p.tape).held ≡ None → IsCutIn m p i g place b c
+    cut_by : (t : IsTrue a.tells) (i : Incoming) (place : ℕ) → p.tape.input ≡ Some i → (files_of p.tape).held ≡ None → IsCutIn m p i g place b c
         → cut_in (plays_by t).format (plays_by t).source ≡ Some (truncated (coding_heard p.tape.input) place)
     cut_by t i place is fresh k =
         let o = w.of t in
@@ -342,13 +342,13 @@ module _ {words : List (List ℕ)} {run : Run} {m : Compiled} {p : Prepared} {a 
     abbrev IsCutFor : (t : IsTrue a.tells) (frames : ℕ) (changes : List Change) → Type 0
     IsCutFor t frames changes = IsCutAt run.settings.block frames changes (length (present_in (plays_by t).format (plays_by t).source)) g
 
-    cut_for : (t : IsTrue a.tells) (i : InputSamples) (place : ℕ) → IsCutIn m p i g place b c → IsCutFor t p.sizes.frames p.script
+    cut_for : (t : IsTrue a.tells) (i : Incoming) (place : ℕ) → IsCutIn m p i g place b c → IsCutFor t p.sizes.frames p.script
     cut_for t i place k =
         let block : p.sizes.block ≡ run.settings.block = ap (λ (s : RunSizes). s.block) w.named.sizes in
         subst (λ (X : List Frame). IsCutAt run.settings.block p.sizes.frames p.script (length X) g) (there_by t)
         (subst (λ n. IsCutAt n p.sizes.frames p.script (length (frames_there p (b.left Input))) g) block k.cut)
 
-    present_by : (t : IsTrue a.tells) (i : InputSamples) (place : ℕ) → HasBegun b c → IsCutIn m p i g place b c → HasPlayedPresent run a c
+    present_by : (t : IsTrue a.tells) (i : Incoming) (place : ℕ) → HasBegun b c → IsCutIn m p i g place b c → HasPlayedPresent run a c
     present_by t i place begun k =
         let q = plays_by t in
         record {

@@ -25,12 +25,11 @@ use Rattle.fv_engine_render.specs.headline.Render.{initial_of}
 use Rattle.fv_engine_render.specs.Files.{AreTakenOf, HasTaken, HasPlayed, StopsAt, IsStopFor, answered, answered_to, output_of, frames_at}
 use Rattle.fv_file_tape.specs.headline.Tapes.{head_in}
 use Rattle.fv_file_tape.specs.Tapes.{IsInput, Streams, CannotSay, channels_of, files_of}
-use Rattle.fv_file_tape.specs.declared.samples.InputSamples.{InputSamples}
+use Rattle.fv_file_tape.specs.declared.incoming.Incoming.{Incoming}
 use Rattle.fv_file_tape.specs.declared.file_tape.OutputHead.{OutputHead}
 use Rattle.fv_file_tape.specs.declared.file_tape.Stop.{Stop}
 use Rattle.fv_file_tape.specs.declared.file_tape.Stop.TheVariants as stop
 use Rattle.fv_top_report.specs.Parts.{AppendsPart}
-use Rattle.fv_top_files.specs.declared.incoming.Incoming.{Incoming}
 use Rattle.fv_top_files.specs.declared.format.OutputFormat.{OutputFormat as Made}
 use Rattle.fv_top.specs.declared.prepare.Prepared.{Prepared}
 use Rattle.fv_top_files.specs.headline.Inputs.{stated_frames, whole_bytes, truncated, coding_in}
@@ -39,45 +38,36 @@ use Rattle.fv_top_files.specs.headline.Output.{OutputFormat, channels_in, presen
 use Rattle.fv_top_files.specs.headline.Loading.{IsRest, IsWithin}
 use Rattle.fv_top_files.specs.Loading.{IsLeft}
 use Rattle.fv_top_files.specs.Formats.{format_in}
-use Rattle.fv_top.specs.inner.Prepared.{CanRun, HasRun, IsEndFor, EndsAt, samples_of, output_head, coding_heard, frames_there, file_on, file_to, file_there}
+use Rattle.fv_top.specs.inner.Prepared.{CanRun, HasRun, IsEndFor, EndsAt, output_head, coding_heard, frames_there, file_on, file_to, file_there}
 use Rattle.fv_top_program.specs.headline.Compiled.{Compiled}
 
 -- ---- the frames of a file
 
 -- the whole frames that are there of what is left, or was read, are those that are present in the file
 pub frames_are : (head : Option Incoming) (held : Option (List ℕ)) (bytes left : List ℕ) (stated : ℕ) → IsLeft head held bytes left
-    → frames_at (option_map samples_of head) held stated left ≡ frames_of stated head (data_of head bytes)
+    → frames_at head held stated left ≡ frames_of stated head (data_of head bytes)
 frames_are None held bytes left stated l = refl
 frames_are (Some h) None bytes left stated l = ap (λ w. frames_of stated (Some h) (take (whole_bytes h) w)) l.1
 frames_are (Some h) (Some held) bytes left stated l = ap (λ w. frames_of stated (Some h) (take (whole_bytes h) w)) l.1
 
 -- how the samples of a file are stored
-pub coding_is : (head : Option Incoming) → coding_heard (option_map samples_of head) ≡ coding_in head
+pub coding_is : (head : Option Incoming) → coding_heard head ≡ coding_in head
 coding_is None = refl
 coding_is (Some h) = refl
 
 -- where the bytes of a file end whose samples are left to read
-pub end_is : (head : Option Incoming) (held : Option (List ℕ)) (bytes left : List ℕ) (i : InputSamples) → IsLeft head held bytes left
-    → option_map samples_of head ≡ Some i → held ≡ None → i.place + length left ≡ length bytes
+pub end_is : (head : Option Incoming) (held : Option (List ℕ)) (bytes left : List ℕ) (i : Incoming) → IsLeft head held bytes left
+    → head ≡ Some i → held ≡ None → i.place + length left ≡ length bytes
 end_is None held bytes left i l is fresh = absurd cc
 end_is (Some h) None bytes left i l is fresh =
-    let same : samples_of h ≡ i = cc in
+    let same : h ≡ i = cc in
     let long : length left ≡ length bytes - h.place = ap length l.1 ∙ length-drop h.place bytes in
     let place = l.2 in
-    subst (λ (j : InputSamples). j.place + length left ≡ length bytes) same (omega (arith, long, place))
+    subst (λ (j : Incoming). j.place + length left ≡ length bytes) same (omega (arith, long, place))
 end_is (Some h) (Some held) bytes left i l is fresh = absurd cc
 
--- a fact of its samples
-pub of_head : (P : InputSamples → Type 0) (head : Option Incoming) (o : Option InputSamples) → o ≡ option_map samples_of head
-    → ForSome head (λ h. P (samples_of h)) → ForSome o P
-of_head P None o is f i named = let e : None ≡ Some i = sym is ∙ named in absurd cc
-of_head P (Some h) o is f i named =
-    let e : Some (samples_of h) ≡ Some i = sym is ∙ named in
-    let same : samples_of h ≡ i = cc in
-    subst P same (f h refl)
-
--- and how many a frame has
-pub channels_are : (head : Option Incoming) → channels_of (option_map samples_of head) ≡ channels_in head
+-- how many a frame has
+pub channels_are : (head : Option Incoming) → channels_of head ≡ channels_in head
 channels_are None = refl
 channels_are (Some h) = refl
 
@@ -91,7 +81,7 @@ room_is n c k frame long few is =
 -- ---- how far it is read
 
 -- no bytes are taken where there is no input
-pub taken_none : (o : Option InputSamples) (held : Option (List ℕ)) (n : ℕ) (before after : List ℕ) → (IsSome o → ⊥) → AreTakenOf o held n before after
+pub taken_none : (o : Option Incoming) (held : Option (List ℕ)) (n : ℕ) (before after : List ℕ) → (IsSome o → ⊥) → AreTakenOf o held n before after
     → after ≡ before
 taken_none None held n before after none t = t
 taken_none (Some i) held n before after none t = absurd (none refl)
@@ -101,7 +91,7 @@ rows_few n m w h = let e : n + (m - n) ≡ m = omega (arith, h) in subst (λ (x 
 
 -- What is taken lies within the frames that a head states, where n is at most their number.
 pub taken_within : (head : Option Incoming) (held : Option (List ℕ)) (bytes left new : List ℕ) (n : ℕ) → IsLeft head held bytes left
-    → ForSome head (λ h. n ≤ stated_frames h) → AreTakenOf (option_map samples_of head) held n left new → IsWithin head bytes new
+    → ForSome head (λ h. n ≤ stated_frames h) → AreTakenOf head held n left new → IsWithin head bytes new
 taken_within None held bytes left new n l few t = tt
 taken_within (Some h) None bytes left new n l few t =
     let closed = l.0 in
@@ -114,7 +104,7 @@ taken_within (Some h) (Some held) bytes left new n l few t =
 
 -- and of all of them just these
 pub taken_all : (head : Option Incoming) (held : Option (List ℕ)) (bytes left new : List ℕ) (n : ℕ) → IsLeft head held bytes left
-    → ForSome head (λ h. n ≡ stated_frames h) → AreTakenOf (option_map samples_of head) held n left new → IsRest head bytes new
+    → ForSome head (λ h. n ≡ stated_frames h) → AreTakenOf head held n left new → IsRest head bytes new
 taken_all None held bytes left new n l is t = tt
 taken_all (Some h) None bytes left new n l is t =
     let closed = l.0 in
@@ -129,10 +119,9 @@ taken_all (Some h) (Some held) bytes left new n l is t =
 width_some : (bits : ℕ) → is_sample_width bits ≡ true → 1 ≤ bits / 8
 width_some bits h = at_width (λ b. 1 ≤ b / 8) bits h (omega arith) (omega arith) (omega arith) (omega arith)
 
-pub frame_some : (o : Option InputSamples) (head : Option Incoming) → o ≡ option_map samples_of head → ForSome o IsInput
-    → ForSome head (λ h. 0 < frame_size h.channels h.bits)
+pub frame_some : (o head : Option Incoming) → o ≡ head → ForSome o IsInput → ForSome head (λ h. 0 < frame_size h.channels h.bits)
 frame_some o head is range h named =
-    let i = range (samples_of h) (is ∙ ap (option_map samples_of) named) in
+    let i = range h (is ∙ named) in
     mul-pos i.some (width_some h.bits i.bits)
 
 -- a file that ends within its whole frames has no byte after them

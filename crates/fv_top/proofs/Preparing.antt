@@ -8,7 +8,7 @@ use Rattle.fv_outside.proofs.lemmas.States.{told_before}
 use Rattle.fv_control.specs.declared.script.Change.{Change}
 use Rattle.fv_top_words.specs.headline.Runs.{Run, Settings}
 use Rattle.fv_top_words.specs.headline.Commands.{Playing}
-use Rattle.fv_top_files.specs.declared.incoming.Incoming.{Incoming}
+use Rattle.fv_file_tape.specs.declared.incoming.Incoming.{Incoming}
 use Rattle.fv_top_report.specs.declared.refusal.Refusal.{Refusal}
 use Rattle.fv_top_report.specs.declared.refusal.Refusal.TheVariants.{NoMemory}
 use Rattle.fv_top_program.specs.headline.Kinds.{FileIs}
@@ -26,7 +26,7 @@ use Rattle.fv_top_files.specs.declared.input.Loaded.{Loaded}
 use Rattle.fv_top.specs.declared.prepare.Prepared.{Prepared}
 use Rattle.fv_top_files.specs.Formats.{format_in}
 use Rattle.fv_top_files.specs.Loaded.{held_in}
-use Rattle.fv_top.specs.inner.Prepared.{IsMadeOf, IsOfFiles, samples_of}
+use Rattle.fv_top.specs.inner.Prepared.{IsMadeOf, IsOfFiles}
 use Rattle.fv_top.proofs.Reaching.{FailsToLoad, reaches_nothing, reaches_file, reaches_on, loading_halts, load_faults, no_kind, fit_kind}
 
 -- ---- what was read so far
@@ -188,7 +188,7 @@ module _ {run : Run} {p : Compiled} {changes : List Change} {head : Option Incom
           program = refl;
           changes = sym m.script;
           format = sym (ap format_in m.format ∙ formats);
-          input = m.input ∙ ap (option_map samples_of) (heads ∙ sym h.is);
+          input = m.input ∙ heads ∙ sym h.is;
           behind = subst (λ k. IsLeft h.source.head k h.source.bytes (b.left Input)) same
               (subst (λ k. IsLeft k held h.source.bytes (b.left Input)) (sym h.is) h.behind);
         }
@@ -205,8 +205,4 @@ module _ {run : Run} {p : Compiled} {changes : List Change} {head : Option Incom
 -- there is an input where one is named
 pub named_is : {name : List ℕ} {settings : Settings} {changes : List Change} {loaded : Loaded} {made : Made} {q : Prepared}
     (input : Option (List ℕ)) → IsMadeOf name settings changes loaded made q → is_some loaded.head ≡ is_some input → is_some q.tape.input ≡ is_some input
-named_is {loaded = loaded} input m named = ap is_some m.input ∙ some_of loaded.head ∙ named
-  where
-    some_of : (o : Option Incoming) → is_some (option_map samples_of o) ≡ is_some o
-    some_of None = refl
-    some_of (Some h) = refl
+named_is {loaded = loaded} input m named = ap is_some m.input ∙ named

@@ -18,7 +18,7 @@ use Rattle.fv_top_program.specs.headline.Kinds.{FileIs}
 use Rattle.fv_top_program.specs.headline.Runs.{JobsRun}
 use Rattle.fv_top_program.specs.Runs.{JobsAnswer, RacksAreJobs}
 use Rattle.fv_top_program.specs.Jobs.{jobs_in}
-use Rattle.fv_top_files.specs.declared.incoming.Incoming.{Incoming}
+use Rattle.fv_file_tape.specs.declared.incoming.Incoming.{Incoming}
 use Rattle.fv_top_files.specs.headline.Sources.{frames_of, data_of}
 use Rattle.fv_top_files.specs.headline.Output.{OutputFormat, channels_in, coding_of, counted, format_of, frames_in, present_in}
 use Rattle.fv_top.specs.headline.Promise.{Plays}

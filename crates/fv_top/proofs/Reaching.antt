@@ -12,7 +12,7 @@ use Rattle.fv_top_words.specs.declared.manner.ProgramKind.{ProgramKind}
 use Rattle.fv_top_words.specs.declared.manner.ProgramKind.TheVariants.{Alone, Rack}
 use Rattle.fv_top_words.specs.headline.Runs.{Run, Settings}
 use Rattle.fv_top_words.specs.headline.Commands.{Playing}
-use Rattle.fv_top_files.specs.declared.incoming.Incoming.{Incoming}
+use Rattle.fv_file_tape.specs.declared.incoming.Incoming.{Incoming}
 use Rattle.fv_pcm.specs.declared.coding.Coding.{Coding}
 use Rattle.fv_pcm.specs.headline.Sizes.{data_size, data_limit}
 use Rattle.fv_top_report.specs.declared.refusal.Refusal.{Refusal}

@@ -19,7 +19,7 @@ use Rattle.fv_pcm.specs.declared.coding.Coding.{Coding}
 use Rattle.fv_pcm.specs.declared.coding.Coding.TheVariants as coding
 use Rattle.fv_top_words.specs.declared.manner.InputKind.{InputKind}
 use Rattle.fv_top_program.specs.Kinds.{IsOfKind}
-use Rattle.fv_top_files.specs.declared.incoming.Incoming.{Incoming}
+use Rattle.fv_file_tape.specs.declared.incoming.Incoming.{Incoming}
 use Rattle.fv_top_files.specs.headline.Inputs.{truncated, read_bytes}
 use Rattle.fv_top.specs.headline.Stages.{Rules, Turn, fault_of, reads, writes, Ends}
 use Rattle.fv_top_files.specs.headline.Loading.{HasInput, LeavesRest, ReadsWithin, IsRest, IsWithin}

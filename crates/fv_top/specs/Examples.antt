@@ -4,7 +4,7 @@ use Rattle.fv_diagram.specs.Primitive.TheVariants.{Wire}
 use Rattle.fv_diagram.specs.headline.Diagram.{Primitive}
 use Rattle.fv_control.specs.headline.Streams.{control_streams}
 use Rattle.fv_pcm.specs.declared.coding.Coding.TheVariants as coding
-use Rattle.fv_top_files.specs.declared.incoming.Incoming.{Incoming}
+use Rattle.fv_file_tape.specs.declared.incoming.Incoming.{Incoming}
 use Rattle.fv_pcm.specs.headline.Coded.{sample_at}
 use Rattle.fv_top_words.specs.headline.Runs.{Settings}
 use Rattle.fv_top_report.specs.declared.refusal.Refusal.TheVariants.{Channels}

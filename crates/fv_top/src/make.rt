@@ -136,6 +136,8 @@ fn sum_on_noise<R: Threads + Wait + Sync, G: Gate + Sync>(
         inputs: playable.inputs,
         outputs: playable.outputs,
         controls: &playable.controls,
+        changes: &[],
+        sizes,
     };
     let mut tape = NoiseTape {
         left: frames,
@@ -146,17 +148,7 @@ fn sum_on_noise<R: Threads + Wait + Sync, G: Gate + Sync>(
         state: voices as i32,
         sum: 0,
     };
-    match render_tape(
-        rt,
-        alloc,
-        &played,
-        &[],
-        &sizes,
-        ready,
-        &mut tape,
-        &mut noise,
-        gate,
-    ) {
+    match render_tape(rt, alloc, &played, ready, &mut tape, &mut noise, gate) {
         Ok(ran) => Ok(Made {
             sum: noise.sum,
             ran,

@@ -12,7 +12,7 @@ ghost use Rattle.fv_top.specs.inner.Prepared.{CanRun, HasRun, StopsRun, coding_h
 
 use crate::prepare::Prepared;
 use fv_engine_render::{Played, Ran, play_files};
-use fv_file_tape::{InputSamples, Stop};
+use fv_file_tape::{Incoming, Stop};
 use fv_outside::{Desk, Gate, Role};
 use fv_pcm::Coding;
 use fv_top_report::Refusal;
@@ -51,19 +51,11 @@ pub fn play<R: Threads + Wait + Sync, D: Desk, G: Gate + Sync>(
         inputs,
         outputs,
         controls: &controls,
+        changes: script.changes(),
+        sizes,
     };
     let coding = coding_heard(tape.input);
-    let ran = match play_files(
-        rt,
-        alloc,
-        desk,
-        &played,
-        script.changes(),
-        &sizes,
-        ready,
-        &mut tape,
-        gate,
-    ) {
+    let ran = match play_files(rt, alloc, desk, &played, ready, &mut tape, gate) {
         Ok(ran) => ran,
         Err(stop) => return Err(stop_refusal(coding, stop)),
     };
@@ -74,7 +66,7 @@ pub fn play<R: Threads + Wait + Sync, D: Desk, G: Gate + Sync>(
 }
 
 // How the samples of an input are stored.
-fn coding_heard(input: Option<InputSamples>) -> Coding
+fn coding_heard(input: Option<Incoming>) -> Coding
     ensures { result ≡ coding_heard input }
 {
     match input {

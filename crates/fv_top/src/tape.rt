@@ -1,6 +1,6 @@
 // The tape of a run's files.
 
-ghost use Rattle.std.specs.Prelude.{◌≡◌, ◌*◌, ◌/◌, ◌≤◌, length, true, option_map, IfOk};
+ghost use Rattle.std.specs.Prelude.{◌≡◌, ◌*◌, ◌/◌, ◌≤◌, length, true, IfOk};
 ghost use Rattle.std.specs.Option.{ForSome};
 ghost use Rattle.fv_base.specs.declared.limits.TheConstants.{MOST_BLOCK, MOST_CHANNELS};
 ghost use Rattle.fv_diagram.specs.Words.{is_sample_width};
@@ -9,10 +9,11 @@ ghost use Rattle.fv_file_tape.specs.Tapes.{IsTape};
 ghost use Rattle.fv_top_files.specs.headline.Inputs.{stated_frames};
 ghost use Rattle.fv_top_files.specs.Loading.{IsPlaced};
 ghost use Rattle.fv_top_files.specs.Loaded.{HoldsAll};
-ghost use Rattle.fv_top.specs.inner.Prepared.{IsTapeOf, samples_of};
+ghost use Rattle.fv_top.specs.inner.Prepared.{IsTapeOf};
 
-use fv_file_tape::{FileTape, InputSamples, OutputHead};
-use fv_top_files::{Incoming, Loaded, OutputFormat, frame_size};
+use fv_file_tape::{FileTape, Incoming, OutputHead};
+use fv_pcm::frame_size;
+use fv_top_files::{Loaded, OutputFormat};
 use std::alloc::{AllocError, Global};
 
 /// A tape from an input to an output of this name, with room for a block of `block` frames of `channels` samples.
@@ -47,29 +48,13 @@ pub fn make_tape<'a>(
             bits: format.bits,
             size: format.size,
         },
-        input: input_samples(head),
+        input: head,
         held,
         done: 0,
         stated: format.frames,
         most: block,
         bytes,
     })
-}
-
-// Where the samples of an input with this head lie.
-fn input_samples(head: Option<Incoming>) -> Option<InputSamples>
-    ensures { result ≡ option_map samples_of head }
-{
-    match head {
-        Some(head) => Some(InputSamples {
-            coding: head.coding,
-            channels: head.channels,
-            bits: head.bits,
-            size: head.data_bytes,
-            place: head.place,
-        }),
-        None => None,
-    }
 }
 
 // As many bytes as a frame takes, of the input or of the output, whichever are more.
@@ -81,9 +66,9 @@ fn frame_room(head: Option<Incoming>, channels: u32, bits: u32) -> u32
     ensures said { channels * (bits / 8) ≤ result }
     ensures few { result ≤ 1024 }
 {
-    let said = channels * (bits / 8);
+    let said = frame_size(channels, bits);
     match head {
-        Some(head) => said.max(frame_size(&head)),
+        Some(head) => said.max(frame_size(head.channels, head.bits)),
         None => said,
     }
 }

@@ -24,7 +24,7 @@ use Rattle.fv_top_words.specs.declared.manner.InputKind.TheVariants as kinds
 use Rattle.fv_top_report.specs.declared.refusal.Refusal.{Refusal}
 use Rattle.fv_top_report.specs.declared.refusal.Refusal.TheVariants.{ReadFault, AuFormat}
 use Rattle.fv_top_report.specs.headline.Layers.{of_wave, of_au}
-use Rattle.fv_top_files.specs.declared.incoming.Incoming.{Incoming}
+use Rattle.fv_file_tape.specs.declared.incoming.Incoming.{Incoming}
 use Rattle.fv_top_files.specs.headline.Inputs.{wave_incoming, au_incoming}
 use Rattle.fv_top_files.specs.headline.Sources.{Source, headed, wave_source, au_source, sized_source, open_source, file_source, is_au}
 use Rattle.fv_top_files.specs.headline.Loading.{HasInput}

@@ -3,7 +3,7 @@
 use Rattle.std.specs.Prelude.{◌≡◌, ◌^◌, ◌<◌, ◌≤◌, true}
 use Rattle.fv_diagram.specs.Limits.TheConstants.{MOST_CHANNELS}
 use Rattle.fv_diagram.specs.Words.{is_sample_width}
-use Rattle.fv_top_files.specs.declared.incoming.Incoming.{Incoming}
+use Rattle.fv_file_tape.specs.declared.incoming.Incoming.{Incoming}
 
 -- the ranges of what a head says
 pub record IsIncoming (h : Incoming) : Type 0 where

@@ -7,7 +7,7 @@ use Rattle.fv_outside.specs.Desk.{KeepsQuiet, KeepsFaultsBut}
 use Rattle.fv_outside.specs.declared.transfer.ReadError.{ReadError}
 use Rattle.fv_outside.specs.declared.transfer.ReadError.TheVariants.{Failed, NoMemory as OutOfMemory}
 use Rattle.fv_top_words.specs.declared.manner.InputKind.{InputKind}
-use Rattle.fv_top_files.specs.declared.incoming.Incoming.{Incoming}
+use Rattle.fv_file_tape.specs.declared.incoming.Incoming.{Incoming}
 use Rattle.fv_top_files.specs.Inputs.{IsIncoming}
 use Rattle.fv_top_files.specs.headline.Sources.{Source}
 use Rattle.fv_top_report.specs.declared.refusal.Refusal.{Refusal}

@@ -10,10 +10,9 @@ ghost use Rattle.fv_top_files.specs.Inputs.{IsIncoming};
 ghost use Rattle.fv_top_files.specs.headline.Output.{coding_of, format_for, channels_in, rate_in, bits_in, frames_in};
 ghost use Rattle.fv_top_files.specs.Formats.{format_answered};
 
-use crate::frames::frame_size;
-use crate::incoming::Incoming;
 use fv_diagram::Arity;
-use fv_pcm::{Coding, data_length};
+use fv_file_tape::Incoming;
+use fv_pcm::{Coding, data_length, frame_size};
 use fv_top_report::Refusal;
 use fv_top_words::{OutputKind, Settings};
 
@@ -100,12 +99,13 @@ fn channels_in(head: Option<Incoming>) -> u32
 }
 
 // The number of frames, if it is said.
+#[tactic(auto, using(fv_pcm::proofs::lemmas::Widths::some_frame))]
 fn frames_in(settings: &Settings, head: Option<Incoming>) -> Option<u32>
     requires { ForSome head IsIncoming }
     ensures { result ≡ frames_in (settings_in settings.now) head }
 {
     match head {
-        Some(head) => Some(head.data_bytes / frame_size(&head)),
+        Some(head) => Some(head.data_bytes / frame_size(head.channels, head.bits)),
         None => settings.frames,
     }
 }

@@ -17,8 +17,9 @@ ghost use Rattle.fv_top_files.specs.Loading.{ReadsFile, StopsLoading, HasHead, I
 ghost use Rattle.fv_top_files.specs.inner.Loading.{StopsHead, GivesHead};
 ghost use Rattle.fv_top_files.specs.Loaded.{held_in, HoldsAll};
 
-use crate::incoming::{Incoming, au_incoming, wave_incoming};
+use crate::incoming::{au_incoming, wave_incoming};
 use fv_au::{read_au_bytes, read_au_head_behind};
+use fv_file_tape::Incoming;
 use fv_outside::{Desk, Role, fill};
 use fv_top_report::Refusal;
 use fv_top_words::InputKind;

@@ -4,12 +4,11 @@
 
 mod files;
 mod format;
-mod frames;
 mod incoming;
 mod input;
 
 pub use files::{read_front, read_refusal};
 pub use format::{OutputFormat, fit};
-pub use frames::frame_size;
-pub use incoming::{Incoming, au_incoming, wave_incoming};
+pub use fv_file_tape::Incoming;
+pub use incoming::{au_incoming, wave_incoming};
 pub use input::{Loaded, load_head};

@@ -4,8 +4,14 @@ use Rattle.fv_base.specs.declared.role.Role.TheVariants.{Output}
 use Rattle.fv_outside.specs.headline.Desk.{DeskState}
 use Rattle.fv_pcm.specs.declared.coding.Coding.{Coding}
 use Rattle.fv_pcm.specs.declared.coding.Coding.TheVariants as coding
+use Rattle.fv_pcm.specs.headline.Sizes.{Layout}
 use Rattle.fv_wav.specs.headline.Samples.{head_bytes}
 use Rattle.fv_au.specs.headline.Reading.{head_bytes as au_head_bytes}
+use Rattle.fv_file_tape.specs.declared.incoming.Incoming.{Incoming}
+
+-- where an input's samples lie in its file
+abbrev pub layout_of : Incoming → Layout
+layout_of h = record { channels = h.channels; bits = h.bits; size = h.data_bytes; place = h.place }
 
 -- the bytes of a head
 abbrev pub head_in : Coding → (channels rate bits size : ℕ) → List ℕ

@@ -13,7 +13,7 @@ use Rattle.fv_num.specs.headline.Tables.{place, read_at, written_at, written, af
 use Rattle.fv_num.proofs.lemmas.Tables.{lists_the_last}
 use Rattle.fv_signal.specs.declared.signal.Signal.{Signal}
 use Rattle.fv_signal.specs.declared.signal.Signal.TheVariants as signal
-use Rattle.fv_signal.specs.headline.Value.{Graph, definition, table_of, back_by as goes_back, signal_at, value, IsOrdered}
+use Rattle.fv_signal.specs.headline.Value.{Graph, definition, table_of, signal_at, value, IsOrdered}
 use Rattle.fv_signal.proofs.lemmas.Values.{values_are_given}
 use Rattle.fv_loopcode.specs.declared.step.Step.{Step}
 use Rattle.fv_loopcode.specs.declared.step.Step.TheVariants as step
@@ -26,11 +26,6 @@ use Rattle.fv_split_plan.specs.headline.Fits.{Names, flows, written_by}
 use Rattle.fv_split_plan.specs.Fits.{Mean, Value, Literal, mean_at, LoadFits, OfDelay, OfBack, OfNow, PointFits, OfPoint, OfStill}
 use Rattle.fv_split_plan.specs.Fits.{ReadFits, WriteFits, StepFits, CodeFits, CodesObey}
 use Rattle.fv_analysis.proofs.lemmas.StandLemmas.{stands_alike}
-
--- a signal goes back as far as code
-same_back : (max : ℕ) (z : ℤ) → goes_back max z ≡ back_by max z
-same_back max (pos d) = refl
-same_back max (negsuc d) = refl
 
 back_now : (x : Stream) (t : ℕ) → back x t (pos 0) ≡ x t
 back_now x t = cond-true (nat_le 0 t) _ _ (le-leb 0 t (omega arith)) ∙ (let e : t - 0 ≡ t = omega arith in ap x e)
@@ -123,7 +118,6 @@ module _ (g : Graph) (ordered : IsOrdered g) (p : Names) (r : Roles) (X : List F
             ap (λ z. back (v (p.lane l)) t (pos (back_by max z))) q
             ∙ sym (ap (λ y. back (v y) t (pos (back_by max (v d t)))) ex)
             ∙ same_stream (stand g x) x (stands x lx) (back_by max (v d t))
-            ∙ ap (λ n. back (v x) t (pos n)) (sym (same_back max (v d t)))
             ∙ sym (node_is s (signal.Delay x d max) n t)
             ∙ sym (ap meant e);
       }
@@ -172,7 +166,7 @@ module _ (g : Graph) (ordered : IsOrdered g) (p : Names) (r : Roles) (X : List F
       ap (λ xs. apply_of op (take (inputs_of op) (map (argument (map meant ms)) xs))) ea
       ∙ ap (λ o. apply_of o (take (inputs_of o) (map (argument (map meant ms)) (w ∷ w ∷ w ∷ w ∷ [])))) eo
       ∙ greater (argument (map meant ms) w)
-      ∙ q ∙ sym (node_is s (signal.Delay x d 0) n t ∙ ap (λ b. back (v x) t (pos b)) (same_back 0 (v d t) ∙ z) ∙ back_now (v x) t)
+      ∙ q ∙ sym (node_is s (signal.Delay x d 0) n t ∙ ap (λ b. back (v x) t (pos b)) z ∙ back_now (v x) t)
       ∙ sym (ap meant e)
     where
       still : (z : ℤ) → back_by 0 z ≡ 0

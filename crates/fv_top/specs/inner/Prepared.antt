@@ -21,7 +21,7 @@ use Rattle.fv_engine_render.specs.declared.blocks.Ran.{Ran}
 use Rattle.fv_file_tape.specs.headline.Tapes.{HasBegun, KeepsOutput}
 use Rattle.fv_file_tape.specs.Tapes.{IsTape, Streams, CannotSay, channels_of, files_of}
 use Rattle.fv_file_tape.specs.Stopping.{IsFaultOfInput}
-use Rattle.fv_file_tape.specs.declared.samples.InputSamples.{InputSamples}
+use Rattle.fv_file_tape.specs.declared.incoming.Incoming.{Incoming}
 use Rattle.fv_file_tape.specs.declared.file_tape.FileTape.{FileTape}
 use Rattle.fv_file_tape.specs.declared.file_tape.OutputHead.{OutputHead}
 use Rattle.fv_file_tape.specs.declared.file_tape.Stop.{Stop}
@@ -34,7 +34,6 @@ use Rattle.fv_top_report.specs.declared.refusal.Refusal.TheVariants.{ReadFault, 
 use Rattle.fv_top_program.specs.headline.Compiled.{Compiled}
 use Rattle.fv_top_program.specs.Compiled.{CanPlay}
 use Rattle.fv_top_files.specs.declared.format.OutputFormat.{OutputFormat as Made}
-use Rattle.fv_top_files.specs.declared.incoming.Incoming.{Incoming}
 use Rattle.fv_top_files.specs.declared.input.Loaded.{Loaded}
 use Rattle.fv_top.specs.declared.prepare.Prepared.{Prepared}
 use Rattle.fv_top_files.specs.headline.Inputs.{truncated}
@@ -47,10 +46,6 @@ use Rattle.fv_top_files.specs.Loaded.{held_in}
 
 -- ---- the tape
 
--- where the samples of an input with this head lie
-abbrev pub samples_of : Incoming → InputSamples
-samples_of h = record { coding = h.coding; channels = h.channels; bits = h.bits; size = h.data_bytes; place = h.place }
-
 -- the head of an output of these channels in this format
 abbrev pub output_head : (channels : ℕ) → Made → OutputHead
 output_head channels f = record { coding = f.coding; channels = channels; rate = f.rate; bits = f.bits; size = f.size }
@@ -60,7 +55,7 @@ output_head channels f = record { coding = f.coding; channels = channels; rate =
 pub record IsTapeOf (name : List ℕ) (channels : ℕ) (format : Made) (loaded : Loaded) (block : ℕ) (t : FileTape) : Type 0 where
   pub output : t.output.now ≡ name
   pub head : t.head ≡ output_head channels format
-  pub input : t.input ≡ option_map samples_of loaded.head
+  pub input : t.input ≡ loaded.head
   pub held : (files_of t).held ≡ held_in loaded
   pub done : t.done ≡ 0
   pub stated : t.stated ≡ format.frames
@@ -93,7 +88,7 @@ pub record IsMadeOf (name : List ℕ) (settings : Settings) (changes : List Chan
   pub format : p.format ≡ made
   pub sizes : p.sizes ≡ sizes_of settings p.sizes.frames
   pub output : p.tape.output.now ≡ name
-  pub input : p.tape.input ≡ option_map samples_of loaded.head
+  pub input : p.tape.input ≡ loaded.head
   pub held : (files_of p.tape).held ≡ held_in loaded
 
 -- It is for this run.
@@ -109,7 +104,7 @@ pub record IsOfFiles (run : Run) (old new : DeskState) (c : Compiled) (p : Prepa
   pub program : plays.of.compiled ≡ c
   pub changes : plays.changes ≡ p.script
   pub format : plays.format ≡ format_in p.format
-  pub input : p.tape.input ≡ option_map samples_of plays.source.head
+  pub input : p.tape.input ≡ plays.source.head
   pub behind : IsLeft plays.source.head (files_of p.tape).held plays.source.bytes (new.left Input)
 
 -- ---- how it is played
@@ -141,7 +136,7 @@ pub record HasRun (c : Compiled) (p : Prepared) (old new : DeskState) : Type 0 w
 
 -- The input ends within the frames that are stated: the blocks up to frame g were played, which are those that lie wholly within the
 -- frames that are there.
-pub record IsCutIn (c : Compiled) (p : Prepared) (i : InputSamples) (g place : ℕ) (old new : DeskState) : Type 0 where
+pub record IsCutIn (c : Compiled) (p : Prepared) (i : Incoming) (g place : ℕ) (old new : DeskState) : Type 0 where
   pub cut : IsCutAt p.sizes.block p.sizes.frames p.script (length (frames_there p (old.left Input))) g
   pub short : length (frames_there p (old.left Input)) < p.sizes.frames
   pub place_is : place ≡ i.place + length (old.left Input)
@@ -155,7 +150,7 @@ IsEndFor c p g old new stop.Read =
     HasBegun old new × IsFaultOfInput old new × KeepsFaultsBut Input old new × IsSome p.tape.input × ((files_of p.tape).held ≡ None)
     × (IsTrue old.tells → new.written Output ≡ file_to c p g (old.left Input))
 IsEndFor c p g old new (stop.End place) =
-    HasBegun old new × KeepsFaults old new × (i : InputSamples) × (p.tape.input ≡ Some i) × ((files_of p.tape).held ≡ None)
+    HasBegun old new × KeepsFaults old new × (i : Incoming) × (p.tape.input ≡ Some i) × ((files_of p.tape).held ≡ None)
     × (IsTrue old.tells → IsCutIn c p i g place old new)
 IsEndFor c p g old new stop.Write =
     CannotSay (file_there c p (old.left Input)) old new
@@ -170,7 +165,7 @@ pub record EndsAt (c : Compiled) (p : Prepared) (g : ℕ) (old new : DeskState) 
   pub cause : IsEndFor c p g old new e
 
 -- how the samples of an input are stored
-abbrev pub coding_heard : Option InputSamples → Coding
+abbrev pub coding_heard : Option Incoming → Coding
 coding_heard None = coding.Wave
 coding_heard (Some i) = i.coding
 

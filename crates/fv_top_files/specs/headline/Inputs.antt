@@ -2,12 +2,13 @@
 use Rattle.std.specs.Prelude.{ℕ, Option, Some, None, false, is_none, List, if◌then◌else◌}
 use Rattle.fv_pcm.specs.declared.coding.Coding.{Coding}
 use Rattle.fv_pcm.specs.declared.coding.Coding.TheVariants as coding
-use Rattle.fv_pcm.specs.headline.Sizes.{Layout, whole_bytes as bytes_stated, stated_frames as frames_stated, present as bytes_present}
+use Rattle.fv_pcm.specs.headline.Sizes.{whole_bytes as bytes_stated, stated_frames as frames_stated, present as bytes_present}
 use Rattle.fv_wav.specs.declared.head.Head.{Head}
 use Rattle.fv_au.specs.declared.head.AuHead.{AuHead}
 use Rattle.fv_top_report.specs.declared.refusal.Refusal.{Refusal}
 use Rattle.fv_top_report.specs.declared.refusal.Refusal.TheVariants as no
-use Rattle.fv_top_files.specs.declared.incoming.Incoming.{Incoming}
+use Rattle.fv_file_tape.specs.declared.incoming.Incoming.{Incoming}
+use Rattle.fv_file_tape.specs.headline.Tapes.{layout_of}
 
 -- an input with the head of a WAV file
 abbrev pub wave_incoming : Head → Incoming
@@ -18,10 +19,6 @@ wave_incoming h =
 abbrev pub au_incoming : AuHead → (data_bytes : ℕ) → Incoming
 au_incoming h n =
     record { coding = coding.Au; channels = h.channels; rate = h.rate; bits = h.bits; data_bytes = n; is_open = is_none h.data_bytes; place = h.offset }
-
--- where an input's samples lie in its file
-abbrev pub layout_of : Incoming → Layout
-layout_of h = record { channels = h.channels; bits = h.bits; size = h.data_bytes; place = h.place }
 
 -- how many whole frames an input's head states
 abbrev pub stated_frames : Incoming → ℕ

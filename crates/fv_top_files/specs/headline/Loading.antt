@@ -7,7 +7,7 @@ use Rattle.fv_outside.specs.headline.Desk.{File, file_named}
 use Rattle.fv_diagram.specs.declared.control.ControlInfo.{ControlInfo}
 use Rattle.fv_control.specs.declared.script.Change.{Change}
 use Rattle.fv_top_words.specs.declared.manner.InputKind.{InputKind}
-use Rattle.fv_top_files.specs.declared.incoming.Incoming.{Incoming}
+use Rattle.fv_file_tape.specs.declared.incoming.Incoming.{Incoming}
 use Rattle.fv_top_files.specs.headline.Inputs.{read_bytes}
 use Rattle.fv_top_files.specs.headline.Sources.{Source, found, script_of, source_of}
 use Rattle.fv_top_report.specs.declared.refusal.Refusal.{Refusal}

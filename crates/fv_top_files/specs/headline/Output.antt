@@ -15,7 +15,7 @@ use Rattle.fv_wav.specs.headline.Samples.{pad_bytes}
 use Rattle.fv_file_tape.specs.headline.Tapes.{head_in}
 use Rattle.fv_top_report.specs.declared.refusal.Refusal.{Refusal}
 use Rattle.fv_top_report.specs.declared.refusal.Refusal.TheVariants.{Channels, OutputTooLong, FramesNeeded}
-use Rattle.fv_top_files.specs.declared.incoming.Incoming.{Incoming}
+use Rattle.fv_file_tape.specs.declared.incoming.Incoming.{Incoming}
 use Rattle.fv_top_files.specs.headline.Inputs.{stated_frames, truncated, coding_in}
 use Rattle.fv_top_files.specs.headline.Sources.{Source, data_of, frames_of}
 

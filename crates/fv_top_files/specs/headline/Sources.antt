@@ -20,7 +20,7 @@ use Rattle.fv_top_words.specs.declared.manner.InputKind.TheVariants as input
 use Rattle.fv_top_report.specs.declared.refusal.Refusal.{Refusal}
 use Rattle.fv_top_report.specs.declared.refusal.Refusal.TheVariants as no
 use Rattle.fv_top_report.specs.headline.Layers.{of_script, of_wave, of_au}
-use Rattle.fv_top_files.specs.declared.incoming.Incoming.{Incoming}
+use Rattle.fv_file_tape.specs.declared.incoming.Incoming.{Incoming}
 use Rattle.fv_top_files.specs.headline.Inputs.{wave_incoming, au_incoming, present}
 
 -- ---- files that may be named

@@ -12,7 +12,8 @@ use Rattle.fv_engine_render.proofs.files.play_files.Goals as goal
 use Rattle.fv_engine_render.proofs.files.play_files.Goals.{After-render_tape}
 
 -- the input fits the diagram
-plays : (g : Over) (c : After-render_tape g) (d : Diagram) → IsSetToPlay d c.args.played.now c.args.sizes.now c.args.ready → Plays d (files_of c.args.tape.now)
+plays : (g : Over) (c : After-render_tape g) (d : Diagram) → IsSetToPlay d c.args.played.now c.args.played.now.sizes c.args.ready
+    → Plays d (files_of c.args.tape.now)
 plays g c d h = record {
   follow = c.samples_follow.ensures;
   prefixes = c.answers_prefixes.ensures d;
@@ -23,7 +24,7 @@ plays g c d h = record {
 
 pub returns-clause-played : goal.returns-clause-played
 returns-clause-played g c = λ d h.
-    let cs = control_streams c.args.changes.now (initial_of c.args.played.now.controls.now) in
+    let cs = control_streams c.args.played.now.changes.now (initial_of c.args.played.now.controls.now) in
     let t = files_of c.args.tape.now in
     let a = g.D.Desk.state c.args.desk.now in
     let b = g.D.Desk.state c.render_tape.new.world in
@@ -37,13 +38,13 @@ returns-clause-ran g c = c.render_tape.ensures.ran
 
 pub returns-clause-stops : goal.returns-clause-stops
 returns-clause-stops g c = λ d h.
-    let cs = control_streams c.args.changes.now (initial_of c.args.played.now.controls.now) in
+    let cs = control_streams c.args.played.now.changes.now (initial_of c.args.played.now.controls.now) in
     let a = g.D.Desk.state c.args.desk.now in
     let b = g.D.Desk.state c.render_tape.new.world in
     IfErr-weaker c.render_tape.result _ _ (λ e k. (
       k.frame,
       k.ran,
       k.blocks,
-      stopped (plays g c d h) cs a c.args.changes.now c.args.sizes.now (sym c.requires.stated) b k.frame k.heard k.said k.act e
+      stopped (plays g c d h) cs a c.args.played.now.changes.now c.args.played.now.sizes (sym c.requires.stated) b k.frame k.heard k.said k.act e
           (record { lengths = k.blocks.blocks.run.lengths; cut = k.blocks.blocks.run.cut; long = k.long }) k.is k.stopped,
     )) (c.render_tape.ensures.stops d h)

@@ -31,8 +31,8 @@ play_tape-ran-requires-clause-controls g c κs within =
     λ k h. subst (λ m. k < m) (sym long) (s.planned.controls_there k (subst (λ (q : PlanView). NamesHeld q.held k) s.plan_is h))
 
 -- what is set for a diagram
-abbrev set_for : (g : Over) (c : After-play_tape-ran g) (d : Diagram) → IsSetToPlay d c.args.played.now c.args.sizes.now c.args.ready
-    → IsSet d c.args.played.now.controls.now c.args.changes.now c.args.sizes.now c.args.ready
+abbrev set_for : (g : Over) (c : After-play_tape-ran g) (d : Diagram) → IsSetToPlay d c.args.played.now c.args.played.now.sizes c.args.ready
+    → IsSet d c.args.played.now.controls.now c.args.played.now.changes.now c.args.played.now.sizes c.args.ready
 set_for g c d h = record {
   well = h.well;
   stay = record { spans = c.spans_fit.ensures; bounded = c.requires.bounded; lawful = c.requires.lawful };
@@ -44,8 +44,8 @@ set_for g c d h = record {
 pub returns-clause-samples : goal.returns-clause-samples
 returns-clause-samples g c = λ d h.
     let cs = c.args.played.now.controls.now in
-    let changes = c.args.changes.now in
-    let n = c.args.sizes.now.frames in
+    let changes = c.args.played.now.changes.now in
+    let n = c.args.played.now.sizes.frames in
     let set = set_for g (goal.at.returns-clause-samples g c).After-play_tape-ran d h in
     let width = h.outputs_are ∙ sym h.set.of.width ∙ sym (outputs_are set) in
     on_ok_weaker c.play_tape-ran.result (λ k. (
@@ -61,7 +61,7 @@ returns-clause-ran g c = λ d h.
     let told = g.G.Gate.told in
     let set = set_for g (goal.at.returns-clause-ran g c).After-play_tape-ran d h in
     from_both c.play_tape-ran.result _ _ _
-    (λ r run room. ran_to set c.args.sizes.now.frames r (told c.args.gate.now) (told c.play_tape-ran.new.gate) run room)
+    (λ r run room. ran_to set c.args.played.now.sizes.frames r (told c.args.gate.now) (told c.play_tape-ran.new.gate) run room)
     c.play_tape-ran.ensures.ran c.play_tape-ran.ensures.room
 
 pub returns-clause-stops : goal.returns-clause-stops

@@ -1,32 +1,55 @@
-use Rattle.std.proofs.Common.{◌≡◌, ℕ, ◌+◌, ◌*◌, ◌/◌, ◌%◌, ◌<◌, [], ◌∷◌, List, map, length, get_or, sym, ap, ◌∙◌, subst, arith, mod-lt}
-use Rattle.std.specs.Global.{Vec}
-use Rattle.fv_graph.specs.inner.Lists.{AreLists, edges_at, group_of}
-use Rattle.fv_graph.proofs.lemmas.Counts.{get_map}
-use Rattle.fv_graph.proofs.ListsLemmas.{lists_push, below_next}
+use Rattle.std.proofs.Common.{◌≡◌, ℕ, suc, ◌+◌, ◌*◌, ◌^◌, ◌<◌, List, ◌++◌, map, length, take, All, sym, ap, ◌∙◌, subst, arith}
+use Rattle.fv_graph.specs.inner.Lists.{AreFirst, AreLists, again, first_list, edges_at}
+use Rattle.fv_graph.proofs.lemmas.Graphs.{further}
+use Rattle.fv_graph.proofs.ListsLemmas.{again_long, take_again, lists_made}
 use Rattle.fv_graph.proofs.lists.lists_of.Goals as goal
 
-pub edges_of-requires : goal.edges_of-requires
-edges_of-requires c = λ i l.
-    let own = c.loop-task.task % c.args.loops in
-    let low = mod-lt c.loop-task.task c.requires.some_loop in
-    let g = c.requires.groups in
-    let same : c.deref.result.now ≡ group_of c.args.groups.now own = c.deref.ensures.value ∙ ap (λ (v : Vec ℕ). v.items) c.index-groups-own.is
-    ∙ sym (get_map (λ (v : Vec ℕ). v.items) c.args.groups.now own c.index-groups-own.result [] (omega arith)) in
-    let p = c.requires.pairs own i low (subst (λ xs. i < length xs) same l) in
-    let q = ap (λ xs. get_or xs i 0) same in
-    let b = below_next c.loop-task.task c.args.loops c.args.stride c.args.vectors c.loop-task-test.true in
-    let s = c.requires.small in omega arith
+pub append_again-requires-clause-there : goal.append_again-requires-clause-there
+append_again-requires-clause-there c =
+    let a = c.loop-vector.auto.vector in let l = again_long c.reserve_exact.new.self.items c.args.stride c.loop-vector.vector (omega arith) in
+    let n = ap length c.in_ok-reserve_exact.ensures.items in let i = ap length c.loop-vector.invariant.edges in let w = c.in_ok-lists.ensures.wide in
+    let o = c.in_ok-lists.lists.edges.ok.0 in let p = c.loop-vector.lists.edges.ok.0 in omega arith
 
-pub loop-task-preserved : goal.loop-task-preserved
-loop-task-preserved c =
-    let t = c.loop-task.task in
-    let own = t % c.args.loops in
-    let low = mod-lt t c.requires.some_loop in
-    let g = c.requires.groups in
-    let same : c.deref.result.now ≡ group_of c.args.groups.now own = c.deref.ensures.value ∙ ap (λ (v : Vec ℕ). v.items) c.index-groups-own.is
-    ∙ sym (get_map (λ (v : Vec ℕ). v.items) c.args.groups.now own c.index-groups-own.result [] (omega arith)) in
-    let is : c.in_ok-edges.edges.items ≡ edges_at c.args.loops c.args.stride c.args.ahead c.args.groups.now t =
-    c.in_ok-edges.ensures ∙ ap (λ xs. (t / c.args.loops * c.args.stride + own + c.args.ahead) ∷ map
-    (λ k. t / c.args.loops * c.args.stride + c.args.loops + k) xs) same in
-    subst (λ (xs : List (Vec ℕ)). AreLists (edges_at c.args.loops c.args.stride c.args.ahead c.args.groups.now) (t + 1) xs) (sym c.in_ok-push.ensures.items)
-    (lists_push (edges_at c.args.loops c.args.stride c.args.ahead c.args.groups.now) c.loop-task.lists.items c.in_ok-edges.edges t c.loop-task.invariant is)
+pub append_again-requires-clause-small : goal.append_again-requires-clause-small
+append_again-requires-clause-small c =
+    let v = c.loop-vector.vector in let now = c.reserve_exact.new.self.items in let edges = c.loop-vector.lists.edges.items in
+    let a = c.loop-vector.auto.vector in let w = c.in_ok-lists.ensures.wide in let o = c.in_ok-lists.lists.edges.ok.0 in
+    let kept = c.in_ok-reserve_exact.ensures.items in
+    let wide : c.in_ok-lists.lists.wide ≡ length now = let n = ap length kept in omega arith in
+    let taken : take c.in_ok-lists.lists.wide edges ≡ c.in_ok-lists.lists.edges.items =
+    ap (λ n. take n edges) wide ∙ ap (take (length now)) c.loop-vector.invariant.edges ∙ take_again now c.args.stride v (omega arith) ∙ kept in
+    subst (λ ys. All (λ e. v * c.args.stride + e < 2 ^ 64) ys) (sym taken) (λ k d l.
+    let s = c.in_ok-lists.ensures.small k d l in let f = further v c.args.vectors c.args.stride c.loop-vector-test.true in
+    let r = c.requires.small in omega arith)
+
+pub loop-vector-preserved : goal.loop-vector-preserved
+loop-vector-preserved c =
+    let v = c.loop-vector.vector in let now = c.reserve_exact.new.self.items in let edges = c.loop-vector.lists.edges.items in
+    let a = c.loop-vector.auto.vector in let w = c.in_ok-lists.ensures.wide in let o = c.in_ok-lists.lists.edges.ok.0 in
+    let s = c.args.stride in
+    let wide : c.in_ok-lists.lists.wide ≡ length now = let n = ap length c.in_ok-reserve_exact.ensures.items in omega arith in
+    let was : edges ≡ again now s v = c.loop-vector.invariant.edges in
+    let taken : take c.in_ok-lists.lists.wide edges ≡ now =
+    ap (λ n. take n edges) wide ∙ ap (take (length now)) was ∙ take_again now s v (omega arith) in
+    record {
+      edges = c.in_ok-append_again.ensures ∙ ap (λ ys. edges ++ map (λ e. v * s + e) ys) taken ∙ ap (λ ys. ys ++ map (λ e. v * s + e) now) was
+          ∙ ap (again now s) (let e : suc v ≡ v + 1 = omega arith in e);
+      begins = c.loop-vector.invariant.begins;
+      wide = c.loop-vector.invariant.wide;
+    }
+
+pub returns : goal.returns
+returns c =
+    let now = c.reserve_exact.new.self.items in let s = c.args.stride in let m = c.args.vectors in
+    let made = c.in_ok-lists.lists in let kept = c.in_ok-reserve_exact.ensures.items in
+    let list : ℕ → List ℕ = first_list c.args.loops c.args.ahead c.args.groups.now in
+    let first : AreFirst list c.args.loops made.begins.items now =
+    subst (λ ys. AreFirst list c.args.loops made.begins.items ys) (sym kept) c.in_ok-lists.ensures.lists in
+    let at_end : c.loop-vector.vector ≡ m = let e = c.loop-vector.auto.vector-end (let p = c.requires.some_vector in omega arith) in
+    let t = c.loop-vector-test.false in omega arith in
+    let w = c.in_ok-lists.ensures.wide in let o = made.edges.ok.0 in
+    let wide : c.loop-vector.lists.wide ≡ length now = let n = ap length kept in let i = c.loop-vector.invariant.wide in omega arith in
+    let begins : c.loop-vector.lists.begins.items ≡ made.begins.items = ap (λ v. v.items) c.loop-vector.invariant.begins in
+    let edges : c.loop-vector.lists.edges.items ≡ again now s m = c.loop-vector.invariant.edges ∙ ap (again now s) at_end in
+    subst (λ (p : ℕ × List ℕ × List ℕ). AreLists (edges_at c.args.loops s c.args.ahead c.args.groups.now) m c.args.loops p.0 p.1 p.2)
+    (λ i. (sym wide i, sym begins i, sym edges i)) (lists_made list c.args.loops m s made.begins.items now first)

@@ -1,5 +1,10 @@
-use Rattle.fv_graph.specs.inner.Lists.{AreLists, edges_at}
+use Rattle.std.proofs.Common.{◌≡◌}
+use Rattle.fv_graph.specs.inner.Lists.{again}
 use Rattle.fv_graph.proofs.lists.lists_of.Given as goal
 
-abbrev pub invariant-loop-task : goal.invariant-loop-task
-invariant-loop-task l = AreLists (edges_at l.loops l.stride l.ahead l.groups) l.task l.lists.items
+abbrev pub invariant-loop-vector : goal.invariant-loop-vector
+invariant-loop-vector l = record {
+  edges : l.lists.edges.items ≡ again l.initial.lists.edges.items l.stride l.vector;
+  begins : l.lists.begins ≡ l.initial.lists.begins;
+  wide : l.lists.wide ≡ l.initial.lists.wide;
+}

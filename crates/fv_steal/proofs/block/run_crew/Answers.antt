@@ -25,9 +25,9 @@ returns-in-Err-crew-clause-entries g c =
     let back = c.close.ensures.entries (λ t l. ap (told_by (wins t)) c.in-Err-crew.ensures.err
     ∙ told_none of key (wins t) (name_of b) (about_of b) 0 c.in-Ok-begin.made.1.items c.in-Ok-begin.ensures.seats) in
     let ps = back.0 in
-    let loops : length ps ≡ c.args.tasks.now.tasks.loops = back.2 ∙ ap (λ (x : Graph). x.tasks.loops) c.in-Ok-begin.ensures.tasks.0 in
-    subst (AreParcelsFrom of key (g.B.Body.key c.args.body.now) 0 c.args.tasks.now.tasks.loops) (sym (back.1 ∙ ap (λ xs. xs ++ ps) c.in-Ok.ensures.items))
-    (parcels_from of key (about_of b) (g.B.Body.key c.args.body.now) 0 c.args.tasks.now.tasks.loops ps loops back.3 same)
+    let loops : length ps ≡ c.args.block.tasks.now.tasks.loops = back.2 ∙ ap (λ (x : Graph). x.tasks.loops) c.in-Ok-begin.ensures.tasks.0 in
+    subst (AreParcelsFrom of key (g.B.Body.key c.args.body.now) 0 c.args.block.tasks.now.tasks.loops) (sym (back.1 ∙ ap (λ xs. xs ++ ps) c.in-Ok.ensures.items))
+    (parcels_from of key (about_of b) (g.B.Body.key c.args.body.now) 0 c.args.block.tasks.now.tasks.loops ps loops back.3 same)
 
 pub work_board-exits-requires-clause-graph : goal.work_board-exits-requires-clause-graph
 work_board-exits-requires-clause-graph g c κs within = c.loops.ensures.graph

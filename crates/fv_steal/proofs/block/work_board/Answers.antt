@@ -17,34 +17,34 @@ use Rattle.fv_steal.proofs.block.work_board.Goals.{After-close, After-seats_of}
 
 pub work-requires-clause-crew : goal.work-requires-clause-crew
 work-requires-clause-crew g c κs within =
-    let b = c.args.board in
+    let b = c.args.block.board in
     subst (IsCrew g.C.Parcel.edge_of g.C.Parcel.key_of (name_of b) (about_of b)) (sym c.as_mut_slice.ensures.value) c.requires.crew
 
 -- the seats that were given back are those of the crew, as it returned
-back : (g : _) (c : goal.After-seats_of g) → take (vec_len c.args.crew) (c.work.new.workers ++ drop (length c.work.new.workers) c.args.crew.items)
+back : (g : _) (c : goal.After-seats_of g) → take (vec_len c.args.block.crew) (c.work.new.workers ++ drop (length c.work.new.workers) c.args.block.crew.items)
     ≡ c.work.new.workers
 back g c =
     let new = c.work.new.workers in
     let a = c.work.auto.workers in
     let v = ap length c.as_mut_slice.ensures.value in
-    let o = c.args.crew.ok.0 in
-    written (vec_len c.args.crew) new c.args.crew.items (omega arith)
+    let o = c.args.block.crew.ok.0 in
+    written (vec_len c.args.block.crew) new c.args.block.crew.items (omega arith)
 
 seats_are : (g : _) (c : goal.After-seats_of g) → c.seats_of.result.items ≡ map seat_of c.work.new.workers
 seats_are g c = c.seats_of.ensures ∙ ap (map seat_of) (back g c)
 
 pub close-requires-clause-seats : goal.close-requires-clause-seats
 close-requires-clause-seats g c =
-    subst (AreSeatsOf g.C.Parcel.edge_of g.C.Parcel.key_of c.args.board) (sym (seats_are g (goal.at.close-requires-clause-seats g c).After-seats_of))
+    subst (AreSeatsOf g.C.Parcel.edge_of g.C.Parcel.key_of c.args.block.board) (sym (seats_are g (goal.at.close-requires-clause-seats g c).After-seats_of))
     c.work.ensures.seats.0
 
 pub close-requires-clause-all : goal.close-requires-clause-all
 close-requires-clause-all g c =
-    subst (λ ss. HaveAll (about_of c.args.board).workers ss) (sym (seats_are g (goal.at.close-requires-clause-all g c).After-seats_of))
+    subst (λ ss. HaveAll (about_of c.args.block.board).workers ss) (sym (seats_are g (goal.at.close-requires-clause-all g c).After-seats_of))
     c.work.ensures.seats.1
 
 worked : (g : _) (c : goal.After-close g)
-    → Worked g.C.Parcel.edge_of g.C.Parcel.key_of c.args.board c.args.tasks.now c.work.new.workers c.seats_of.result.items
+    → Worked g.C.Parcel.edge_of g.C.Parcel.key_of c.args.block.board c.args.tasks.now c.work.new.workers c.seats_of.result.items
 worked g c = record {
   graph = c.requires.board.0;
   told = c.requires.board.1;
@@ -53,7 +53,7 @@ worked g c = record {
 }
 
 -- nothing is left over, so the board is done
-none_left : (g : _) (c : goal.After-close g) → NothingLeft (net_of (tasks_of c.args.board)) c.seats_of.result.items
+none_left : (g : _) (c : goal.After-close g) → NothingLeft (net_of (tasks_of c.args.block.board)) c.seats_of.result.items
 none_left g c = left_of_board (worked g c) c.work.ensures.left
 
 -- the crew is through
@@ -82,7 +82,7 @@ pub returns-clause-exits : goal.returns-clause-exits
 returns-clause-exits g c =
     let of = g.C.Parcel.edge_of in
     let key = g.C.Parcel.key_of in
-    let b = c.args.board in
+    let b = c.args.block.board in
     let gains = c.close.ensures.exits (c.close.ensures.whole (none_left g c)).0 in
     let ps = gains.0 in
     let loops : length ps ≡ c.args.tasks.now.tasks.loops = gains.2 ∙ ap (λ (x : Graph). x.tasks.loops) c.requires.board.0 in
@@ -102,9 +102,9 @@ returns-clause-count g c = (told g c).1
 
 pub returns-clause-who : goal.returns-clause-who
 returns-clause-who g c =
-    let n = (about_of c.args.board).workers in
+    let n = (about_of c.args.block.board).workers in
     let crew = c.requires.crew in
-    let few = numbers_below n c.args.crew.items c.work.new.workers (c.work.ensures.numbers ∙ ap (map number_of) c.as_mut_slice.ensures.value) crew.count
+    let few = numbers_below n c.args.block.crew.items c.work.new.workers (c.work.ensures.numbers ∙ ap (map number_of) c.as_mut_slice.ensures.value) crew.count
     crew.numbers in
     All-permutation (λ (line : Line). line.worker < n) (flat_map lines_of c.work.new.workers) c.sort_lines.new.lines.items
     (crew_lines g c).permutation (who (worked g c) n few (crew_through g c))

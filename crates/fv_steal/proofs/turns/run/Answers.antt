@@ -11,18 +11,18 @@ use Rattle.fv_steal.proofs.turns.run.Goals as goal
 
 pub receive_all-requires-clause-full : goal.receive_all-requires-clause-full
 receive_all-requires-clause-full g c =
-    taken_full g.C.Parcel.edge_of g.C.Parcel.key_of c.args.board.now c.args.tasks.now c.requires.tasks c.args.t (slots_of c.args.seat.now)
+    taken_full g.C.Parcel.edge_of g.C.Parcel.key_of c.args.board.now c.args.tasks.now c.requires.tasks c.args.taken.task (slots_of c.args.seat.now)
     (slots_of c.stamp-start.new.seat) c.requires.taken (of_hand _ _ _ c.requires.hand c.stamp-start.ensures.start refl).1
 
 pub receive_all-requires-clause-empty : goal.receive_all-requires-clause-empty
 receive_all-requires-clause-empty g c =
-    taken_empty g.C.Parcel.edge_of g.C.Parcel.key_of c.args.board.now c.args.tasks.now c.requires.tasks c.args.t (slots_of c.args.seat.now)
+    taken_empty g.C.Parcel.edge_of g.C.Parcel.key_of c.args.board.now c.args.tasks.now c.requires.tasks c.args.taken.task (slots_of c.args.seat.now)
     (slots_of c.stamp-start.new.seat) c.requires.taken (of_hand _ _ _ c.requires.hand c.stamp-start.ensures.start refl).1 c.requires.wires c.requires.task
 
 pub run-requires-clause-inward : goal.run-requires-clause-inward
 run-requires-clause-inward g c =
     let b = c.requires.body in
-    let n = at_task c.args.tasks.now.tasks (g.B.Body.tasks c.args.body.now) c.task-task.result c.args.t b.0 c.task-task.ensures in
+    let n = at_task c.args.tasks.now.tasks (g.B.Body.tasks c.args.body.now) c.task-task.result c.args.taken.task b.0 c.task-task.ensures in
     subst (λ k. AreParcelsOf g.C.Parcel.edge_of g.C.Parcel.key_of k (inward (g.B.Body.tasks c.args.body.now) (task_at
     (g.B.Body.tasks c.args.body.now) c.task-task.result.loop_no c.task-task.result.vector)) c.receive_all.new.parcels.items) (sym b.1)
     (subst (λ (p : Tasks × ℕ). AreParcelsOf g.C.Parcel.edge_of g.C.Parcel.key_of (g.C.Parcel.key_of (about_of c.args.board.now).sample.value)
@@ -31,15 +31,15 @@ run-requires-clause-inward g c =
 pub run-requires-clause-room : goal.run-requires-clause-room
 run-requires-clause-room g c =
     let b = c.requires.body in
-    let n = at_task c.args.tasks.now.tasks (g.B.Body.tasks c.args.body.now) c.task-task.result c.args.t b.0 c.task-task.ensures in
+    let n = at_task c.args.tasks.now.tasks (g.B.Body.tasks c.args.body.now) c.task-task.result c.args.taken.task b.0 c.task-task.ensures in
     subst (λ (p : Tasks × ℕ). length (outward p.0 p.1) ≤ vec_capacity c.receive_all.new.parcels) (λ i. (sym b.0 i, sym n i))
     (let r = c.requires.room.1 in let k = c.receive_all.ensures.room in omega arith)
 
 pub hand_all-requires-clause-parcels : goal.hand_all-requires-clause-parcels
 hand_all-requires-clause-parcels g c =
     let b = c.requires.body in
-    let n = at_task c.args.tasks.now.tasks (g.B.Body.tasks c.args.body.now) c.task-task.result c.args.t b.0 c.task-task.ensures in
-    subst (λ k. AreParcelsOf g.C.Parcel.edge_of g.C.Parcel.key_of k (outward c.args.tasks.now.tasks c.args.t) c.run.new.parcels.items) b.1
+    let n = at_task c.args.tasks.now.tasks (g.B.Body.tasks c.args.body.now) c.task-task.result c.args.taken.task b.0 c.task-task.ensures in
+    subst (λ k. AreParcelsOf g.C.Parcel.edge_of g.C.Parcel.key_of k (outward c.args.tasks.now.tasks c.args.taken.task) c.run.new.parcels.items) b.1
     (subst (λ (p : Tasks × ℕ). AreParcelsOf g.C.Parcel.edge_of g.C.Parcel.key_of (g.B.Body.key c.args.body.now)
     (outward p.0 p.1) c.run.new.parcels.items) (λ i. (b.0 i, n i)) c.run.ensures.outward)
 
@@ -48,4 +48,4 @@ returns-clause-spans g c =
     let started = of_hand _ _ _ c.requires.hand c.stamp-start.ensures.list in
     c.stamp-finish.ensures.above c.stamp-start.result
     (subst (λ (v : View _). 0 < done_by (stamps c.stamp-start.result) v) (sym (c.hand_all.ensures.same.0 ∙ c.receive_all.ensures.same.0))
-    (has_stamp c.stamp-start.result c.args.t (view_of c.args.seat.now) (view_of c.stamp-start.new.seat) started))
+    (has_stamp c.stamp-start.result c.args.taken.task (view_of c.args.seat.now) (view_of c.stamp-start.new.seat) started))

@@ -18,7 +18,7 @@ use Rattle.fv_top_program.specs.Kinds.{IsOfKind}
 use Rattle.fv_top_files.specs.Formats.{format_in}
 use Rattle.fv_top_files.specs.Loaded.{held_in}
 use Rattle.fv_pcm.specs.declared.coding.Coding.{Coding}
-use Rattle.fv_top_files.specs.declared.incoming.Incoming.{Incoming}
+use Rattle.fv_file_tape.specs.declared.incoming.Incoming.{Incoming}
 use Rattle.fv_top_files.specs.headline.Output.{OutputFormat, coding_of, format_for, format_of}
 use Rattle.fv_top.specs.headline.Promise.{HasNoProgram}
 use Rattle.fv_top.specs.inner.Promise.{IsScriptRefusal}

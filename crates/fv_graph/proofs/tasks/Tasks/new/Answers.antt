@@ -56,24 +56,23 @@ invariant_of-result c =
     let loops = c.args.loops in let across = loops + c.len-count.result in
     let g : Tasks = record { loops = loops; vectors = c.args.vectors; reads = c.in_ok-pairs.pairs.items } in
     let wide : across ≡ loops + length c.in_ok-pairs.pairs.items = omega arith in
+    let into = c.in_ok-inward.inward in let out = c.in_ok-outward.outward in
     let fits = ap (λ n. c.args.vectors * n) wide in let small = c.if-not-can_number.ensures in (
       (makes_graph loops c.args.vectors c.args.reads.now c.in_ok-pairs.pairs.items
           r.some_loop r.some_vector r.pairs (record { permutation = e.permutation; readers = e.readers; sources = e.sources })),
       omega arith,
-      are_inward g c.deref-2.result.now c.in_ok-into.into.items c.in_ok-inward.inward.items across c.requires.some_loop wide (record {
+      are_inward g c.deref-2.result.now c.in_ok-into.into.items into across wide (record {
         all = c.deref-2.ensures.value ∙ c.in_ok-readers.ensures ∙ ap (map (λ (r : Reads). r.reader)) c.deref.ensures.value;
         long = omega arith;
         by = c.in_ok-into.ensures.1;
-      }) (subst (λ n. AreLists (edges_at loops across 0 c.in_ok-into.into.items) (n * loops) c.in_ok-inward.inward.items) c.from.ensures
-          (subst (λ (gs : List (Vec ℕ)). AreLists (edges_at loops across 0 gs) (c.from.result * loops) c.in_ok-inward.inward.items)
-          c.deref-5.ensures.value c.in_ok-inward.ensures)),
-      are_outward g c.deref-4.result.now c.in_ok-out.out.items c.in_ok-outward.outward.items across c.requires.some_loop wide (record {
+      }) (subst (λ (p : ℕ × List (Vec ℕ)). AreLists (edges_at loops across 0 p.1) p.0 loops into.wide into.begins.items into.edges.items)
+          (λ i. (c.from.ensures i, c.deref-5.ensures.value i)) c.in_ok-inward.ensures),
+      are_outward g c.deref-4.result.now c.in_ok-out.out.items out across wide (record {
         all = c.deref-4.ensures.value ∙ c.in_ok-sources.ensures ∙ ap (map (λ (r : Reads). r.source)) c.deref-3.ensures.value;
         long = omega arith;
         by = c.in_ok-out.ensures.1;
-      }) (subst (λ n. AreLists (edges_at loops across across c.in_ok-out.out.items) (n * loops) c.in_ok-outward.outward.items) c.from-2.ensures
-          (subst (λ (gs : List (Vec ℕ)). AreLists (edges_at loops across across gs) (c.from-2.result * loops) c.in_ok-outward.outward.items)
-          c.deref-6.ensures.value c.in_ok-outward.ensures)),
+      }) (subst (λ (p : ℕ × List (Vec ℕ)). AreLists (edges_at loops across across p.1) p.0 loops out.wide out.begins.items out.edges.items)
+          (λ i. (c.from-2.ensures i, c.deref-6.ensures.value i)) c.in_ok-outward.ensures),
       omega arith,
       omega arith,
     )
