@@ -121,7 +121,7 @@ pub serves_prop : (steps : List Step) (held : ℕ → ℤ) (s : Scratch) (x y : 
 serves_prop steps held s x y = λ i. record {
   room = record {
     regs = ℕ_set (length s.regs.items) (length steps) x.room.regs y.room.regs i;
-    rows = ℕ_set (length s.rows.items) (length steps * 32) x.room.rows y.room.rows i;
+    rows = ℕ_set (length s.rows.items) (length steps * 128) x.room.rows y.room.rows i;
     last = le_prop x.room.last y.room.last i;
   };
   settled = λ e p l k m. keeps_prop held (cell s.rows.items p k) (step_in steps p) (x.settled e p l k m) (y.settled e p l k m) i;

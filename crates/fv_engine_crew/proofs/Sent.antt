@@ -178,12 +178,15 @@ cycles_sync = search (cycle_sync, sendable, crosses) depth 24
 
 schedule_sync : IsSync schedule.the_row
 schedule_sync = declared_sync schedule.the_type (
-  search (sendable, crosses) depth 24,
+  search sendable,
   (
-    rows_sync,
+    search (sendable, crosses) depth 24,
     (
-      search (visit_sync, sendable, crosses) depth 24,
-      (search (cycle_action_sync, sendable, crosses) depth 24, (search (sendable, crosses) depth 24, (cycles_sync, tt))),
+      rows_sync,
+      (
+        search (visit_sync, sendable, crosses) depth 24,
+        (search (cycle_action_sync, sendable, crosses) depth 24, (search (sendable, crosses) depth 24, (cycles_sync, tt))),
+      ),
     ),
   ),
 )

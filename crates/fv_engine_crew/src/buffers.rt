@@ -14,6 +14,8 @@ use std::alloc::{AllocError, Global};
 /// them.
 #[derive(Drop)]
 pub(crate) struct Buffers<'a, 'b> {
+    // Where they were taken from, and where all else that the block takes is taken from.
+    pub(crate) alloc: Global,
     // By loop: its lists and its scratch.
     pub(crate) rooms: Vec<Box<Writers<'a, 'b>>>,
     // The lanes as they begin, lane by lane.
@@ -50,6 +52,7 @@ pub(crate) fn take_buffers<'a, 'b>(
     let emptied = Vec::with_capacity(alloc, loops)?;
     let back = Vec::with_capacity(alloc, lanes)?;
     Ok(Buffers {
+        alloc,
         rooms,
         begun,
         entries,

@@ -16,8 +16,7 @@ use crate::enter::enter;
 use fv_lines::LaneWriter;
 use fv_loopcode_machine::Scratch;
 use fv_outside::{Gate, Line};
-use fv_steal::run_crew;
-use std::alloc::Global;
+use fv_steal::{CrewBlock, run_crew};
 use std::marker::Sync;
 use std::sync::Wait;
 use std::thread::Threads;
@@ -26,7 +25,6 @@ use std::thread::Threads;
 /// with the lists.
 pub(crate) fn run_begun<'a, 'b, R: Threads + Wait + Sync, G: Gate + Sync>(
     rt: &R,
-    alloc: Global,
     block: &SpreadBlock<'b>,
     buffers: Buffers<'a, 'b>,
     lists: &mut Vec<Vec<i32>>,
@@ -50,6 +48,7 @@ pub(crate) fn run_begun<'a, 'b, R: Threads + Wait + Sync, G: Gate + Sync>(
     ensures room { vec_capacity lines.old ≤ vec_capacity lines.new }
 {
     let Buffers {
+        alloc,
         rooms,
         begun,
         entries,
@@ -58,16 +57,11 @@ pub(crate) fn run_begun<'a, 'b, R: Threads + Wait + Sync, G: Gate + Sync>(
     } = buffers;
     let (body, entries) = enter(block, begun, rooms, entries, &mut *lists);
     let cells = lists.as_mut_slice();
-    match run_crew(
-        rt,
-        alloc,
-        block.tasks,
-        block.workers,
-        entries,
-        &body,
-        lines,
-        gate,
-    ) {
+    let crew = CrewBlock {
+        tasks: block.tasks,
+        workers: block.workers,
+    };
+    match run_crew(rt, alloc, crew, entries, &body, lines, gate) {
         Ok(exits) => {
             let all = collect(alloc, body.start(), exits, emptied, back, cells, kept);
             Ok(all)

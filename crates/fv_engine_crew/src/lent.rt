@@ -62,7 +62,6 @@ fn use_buffers<'a, 'b, R: Threads + Wait + Sync, G: Gate + Sync>(
     let (shared, rest) = uncut.end();
     match run_begun(
         rt,
-        pack.alloc,
         block,
         buffers,
         &mut *pack.lists,

@@ -27,7 +27,7 @@ pub(crate) fn scratch_for(
 ) -> Result<Scratch, AllocError>
     ensures { IfOk result (λ s. IsNew steps s) }
 {
-    let numbers = times(steps, 32)?;
+    let numbers = times(steps, 128)?;
     let Some(mut scratch) = kept.pop() else {
         return Scratch::new(alloc, steps);
     };

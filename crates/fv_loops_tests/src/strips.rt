@@ -18,7 +18,7 @@ pub(crate) fn used(alloc: Global, steps: u64) -> Result<Scratch, AllocError>
     ensures { IfOk result (λ s. IsNew steps s) }
 {
     let regs = Vec::from_elem(alloc, 0, steps as usize)?;
-    let rows = Vec::from_elem(alloc, -7, steps as usize * 32)?;
+    let rows = Vec::from_elem(alloc, -7, steps as usize * 128)?;
     Ok(Scratch {
         regs,
         rows,
@@ -56,8 +56,8 @@ pub(crate) fn sides_of(alloc: Global, count: u64, steps: u64) -> Result<Sides, A
 
 /// Fails where strips left other samples, cells or registers than samples did.
 pub(crate) fn assert_same(rt: &impl Abort, sides: &mut Sides, registers: &[i32])
-    requires rows { length sides.old.scratch.rows.items ≡ length sides.old.scratch.regs.items * 32 }
-    requires last { sides.old.scratch.last < 32 }
+    requires rows { length sides.old.scratch.rows.items ≡ length sides.old.scratch.regs.items * 128 }
+    requires last { sides.old.scratch.last < 128 }
 {
     assert_are(rt, "samples", &sides.strips.samples, &sides.samples.samples);
     assert_are(rt, "cells", &sides.strips.cells, &sides.samples.cells);
@@ -77,17 +77,17 @@ fn sum_by_strips(code: &Code, input: &[i32], count: u64, scratch: &mut Scratch, 
 }
 
 // Two strips and a part of a third.
-const COUNT: u64 = 70;
+const COUNT: u64 = 300;
 
 // Runs the running sum both ways; the registers are those of the run by samples.
 fn sum_both(code: &Code, sides: &mut Sides) -> [i32; 7]
     requires code { code.now ≡ running_sum }
-    requires samples { HasRoom sides.old.samples 70 }
-    requires strips { HasRoom sides.old.strips 70 }
+    requires samples { HasRoom sides.old.samples 300 }
+    requires strips { HasRoom sides.old.strips 300 }
     requires scratch { IsNew 7 sides.old.scratch }
     ensures { HasScratchRoom running_sum sides.new.scratch }
 {
-    let mut input = [0; 70];
+    let mut input = [0; 300];
     for k in 0..input.len() {
         input[k] = 1 << (k % 31);
     }

@@ -93,17 +93,17 @@ fn what_is_written_is_read_at_once(rt: HostRuntime) -> Result<(), Fail> {
 }
 
 // Two strips and a part of a third.
-const COUNT: u64 = 70;
+const COUNT: u64 = 300;
 
 // Runs the code both ways; the registers are those of the run by samples.
 fn write_both(code: &Code, sides: &mut Sides) -> [i32; 9]
     requires code { code.now ≡ written_again }
-    requires samples { HasRoom sides.old.samples 70 }
-    requires strips { HasRoom sides.old.strips 70 }
+    requires samples { HasRoom sides.old.samples 300 }
+    requires strips { HasRoom sides.old.strips 300 }
     requires scratch { IsNew 9 sides.old.scratch }
     ensures { HasScratchRoom written_again sides.new.scratch }
 {
-    let mut input = [0; 210];
+    let mut input = [0; 900];
     for k in 0..input.len() {
         input[k] = (k as i32 * 37) % 5 - 1;
     }

@@ -17,7 +17,7 @@ loop-j-preserved c =
     let many : c.len.result ≡ length (code_of p n) = c.len.ensures ∙ ap (λ (ss : List Step). length ss) c.code.ensures in
     let room : HasRoom (code_of p n) x = record {
       regs = c.in_ok-one.ensures.regs ∙ many;
-      rows = c.in_ok-one.ensures.rows ∙ ap (λ m. m * 32) many;
+      rows = c.in_ok-one.ensures.rows ∙ ap (λ m. m * 128) many;
       last = c.in_ok-one.ensures.last;
     } in
     let Fit : List Scratch → Type 0 = λ ys. (i : ℕ) (d : Scratch) → i < n + 1 → HasRoom (code_of p i) (get_or ys i d) in
